@@ -34,14 +34,14 @@ module _ {I : Type 0} (ops : Operations I) (laws : Laws ops) where
   aged-stops zero x h = ap (λ m. aged ops m x) (omega arith)
   aged-stops (suc n) x h =
       elim (eq-or-lt-of-le h) [
-        inl e ↦ ap (λ m. aged ops m x) (sym e)
+        | inl e ↦ ap (λ m. aged ops m x) (sym e)
         | inr l ↦ aged-more n x ∙ laws .older-stays (aged ops n x) (aged-left n x ∙ omega arith) ∙ aged-stops n x (omega arith)
       ]
 
   aged-min : (n : ℕ) (x : I) → aged ops (min n (ops .left x)) x ≡ aged ops n x
   aged-min n x =
       elim (cases-lt n (ops .left x)) [
-        inl l ↦ ap (λ m. aged ops m x) (omega arith)
+        | inl l ↦ ap (λ m. aged ops m x) (omega arith)
         | inr l ↦ ap (λ m. aged ops m x) (let e : min n (ops .left x) ≡ ops .left x = omega arith in e) ∙ sym (aged-stops n x l)
       ]
 

@@ -1,21 +1,21 @@
 -- The newest instance, and successors. Assumes nothing.
 use mathlib.Core.Path.{_≡_, refl, sym, ap, subst, _∙_}
 use mathlib.Core.Bool.{Bool, true, false, cond}
-use mathlib.Core.List.{List, [], _∷_}
+use mathlib.Core.List.{List}
 use mathlib.Core.Logic.{inl, inr}
-use Prim.Native.Nat.{ℕ, zero, suc, _+_, _<_, _≤_}
+use Prim.Native.Nat.{ℕ, zero, suc, _+_, _-_, _<_, _≤_}
 use native.Mathlib.Nat.{eq-or-lt-of-le}
-use native.Mathlib.Numerals.{add-one}
 use native.Mathlib.Omega.{arith}
-use lib.ListN.{length, getD}
-use Rattle.std.proofs.shelf.Lists.{getD-default}
+use lib.Dec.{eqb}
+use lib.ListN.{length}
+use Rattle.std.proofs.shelf.Tests.{ne-eqb}
 use Rattle.std.specs.declared.option.Option.{Option}
 use Rattle.std.specs.declared.option.Option.the-variants.{Some, None}
 use Rattle.kinds.specs.declared.rank.Rank.{Rank}
 use Rattle.kinds.specs.declared.rank.Rank.the-variants.{Lower, Same, Higher}
 use Rattle.kinds.specs.Kinds.{Operations, Laws}
 use Rattle.kinds.specs.Ranks.{turned, OrderFacts}
-use Rattle.kinds.specs.Recency.{is-higher, newest-among, newest-of, Newest, successor-of, Succeeds}
+use Rattle.kinds.specs.Recency.{is-higher, instance-at, newer-of, newest-to, newest-of, Newest, successor-of, Succeeds}
 use Rattle.kinds.proofs.WeakOrders.{order-facts}
 
 -- a rank that is not higher is lower or the same
@@ -74,107 +74,97 @@ module _ {I : Type 0} (ops : Operations I) (laws : Laws ops) where
   follows-none held y check time p e = follows held (Some y) check time (ap Some e ∙ ap (λ h. successor-of ops h check time) (sym p))
 
   module _ (xs : List I) where
-    abbrev at : I → ℕ → I
-    at d k = getD xs k d
+    abbrev at : ℕ → I
+    at = instance-at ops xs
 
-    pub newest-none : (d : I) → newest-among ops d xs 0 ≡ 0
-    unfolding newest-among
-    newest-none d = refl
+    pub newest-none : newest-to ops xs 0 ≡ 0
+    unfolding newest-to
+    newest-none = refl
 
-    newest-more : (d : I) (n : ℕ) → newest-among ops d xs (suc n) ≡ cond (is-higher (ops .rank (at d n) (at d (newest-among ops d xs n)))) n (newest-among ops d xs n)
-    unfolding newest-among
-    newest-more d n = refl
+    newest-more : (n : ℕ) → newest-to ops xs (suc n) ≡ newer-of ops xs (newest-to ops xs n) (suc n)
+    unfolding newest-to
+    newest-more n = refl
 
-    newest-new : (d : I) (n p : ℕ) → newest-among ops d xs n ≡ p → ops .rank (at d n) (at d p) ≡ Higher → newest-among ops d xs (suc n) ≡ n
-    newest-new d n p e h = newest-more d n ∙ ap (λ r. cond (is-higher r) n (newest-among ops d xs n)) (ap (λ q. ops .rank (at d n) (at d q)) e ∙ h)
+    newer-new : (p i : ℕ) → ops .rank (at i) (at p) ≡ Higher → newer-of ops xs p i ≡ i
+    newer-new p i h = ap (λ r. cond (is-higher r) i p) h
 
-    newest-old : (d : I) (n p : ℕ) → newest-among ops d xs n ≡ p → (ops .rank (at d n) (at d p) ≡ Higher → ⊥) → newest-among ops d xs (suc n) ≡ p
-    newest-old d n p e h =
-        newest-more d n
-        ∙ ap (λ b. cond b n (newest-among ops d xs n)) (ap (λ q. is-higher (ops .rank (at d n) (at d q))) e ∙ is-higher-false _ h)
-        ∙ e
+    newer-old : (p i : ℕ) → (ops .rank (at i) (at p) ≡ Higher → ⊥) → newer-of ops xs p i ≡ p
+    newer-old p i h = ap (λ b. cond b i p) (is-higher-false _ h)
 
-    -- one turn of a search for the newest: x is the next instance, y the newest so far
-    pub turn-new : (best i : ℕ) (x y : I) → i < length xs → best < length xs → x ≡ getD xs i x → y ≡ getD xs best y → ops .rank x y ≡ Higher → (d : I) → best ≡ newest-among ops d xs i → i ≡ newest-among ops d xs (i + 1)
-    turn-new best i x y li lb ex ey h d e =
-        sym (ap (newest-among ops d xs) (add-one i) ∙ newest-new d i best (sym e)
-          (let p : x ≡ at d i = ex ∙ getD-default xs i x d li in
-          let q : y ≡ at d best = ey ∙ getD-default xs best y d lb in
-          cc))
+    newer-within : (p i : ℕ) → p < length xs → i < length xs → newer-of ops xs p i < length xs
+    newer-within p i a b =
+        let P : ℕ → Type 0 = λ k. k < length xs in
+        by-higher _ (ops .rank (at i) (at p)) (λ h. subst P (sym (newer-new p i h)) b) (λ h. subst P (sym (newer-old p i h)) a)
 
-    pub turn-old : (best i : ℕ) (x y : I) → i < length xs → best < length xs → x ≡ getD xs i x → y ≡ getD xs best y → (ops .rank x y ≡ Higher → ⊥) → (d : I) → best ≡ newest-among ops d xs i → best ≡ newest-among ops d xs (i + 1)
-    turn-old best i x y li lb ex ey n d e =
-        sym (ap (newest-among ops d xs) (add-one i) ∙ newest-old d i best (sym e)
-          (λ h. let p : x ≡ at d i = ex ∙ getD-default xs i x d li in
-          let q : y ≡ at d best = ey ∙ getD-default xs best y d lb in
-          n (cc)))
+    -- one turn of a search that looks at the instance at i
+    pub turn : (best i r : ℕ) → 1 ≤ i → i < length xs → best < length xs → best ≡ newest-to ops xs (i - 1) → r ≡ newer-of ops xs best i → (r < length xs) × (r ≡ newest-to ops xs (i + 1 - 1))
+    turn best i r o li lb e f =
+        let P : ℕ → Type 0 = λ k. k < length xs in
+        let s : i ≡ suc (i - 1) = omega arith in
+        let t : suc (i - 1) ≡ i + 1 - 1 = omega arith in (
+          subst P (sym f) (newer-within best i lb li),
+          f ∙ ap (newer-of ops xs best) s ∙ ap (λ b. newer-of ops xs b (suc (i - 1))) e ∙ sym (newest-more (i - 1)) ∙ ap (newest-to ops xs) t,
+        )
 
-    -- p is the newest of the first n
-    record Among (d : I) (n p : ℕ) : Type 0 where
-      inside : p < n
-      none-above : (k : ℕ) → k < n → ops .rank (at d k) (at d p) ≡ Higher → ⊥
-      all-below : (k : ℕ) → k < p → ops .rank (at d k) (at d p) ≡ Lower
-
-    below-new : (d : I) (n p k : ℕ) → Among d n p → ops .rank (at d n) (at d p) ≡ Higher → k < n → ops .rank (at d k) (at d n) ≡ Lower
-    below-new d n p k a h l =
-        let t : ops .rank (at d p) (at d n) ≡ Lower = laws .order .rank-turned (at d n) (at d p) ∙ ap turned h in
-        not-higher _ (ops .rank (at d k) (at d p)) (a .none-above k l)
-        (λ e. laws .order .lower-trans _ _ _ e t) (λ e. facts .same-lower _ _ _ e t)
+    -- p is the newest of the first n + 1
+    record Among (n p : ℕ) : Type 0 where
+      inside : p ≤ n
+      none-above : (k : ℕ) → k ≤ n → ops .rank (at k) (at p) ≡ Higher → ⊥
+      all-below : (k : ℕ) → k < p → ops .rank (at k) (at p) ≡ Lower
 
     never-above-self : (x : I) → ops .rank x x ≡ Higher → ⊥
     never-above-self x h = let z : _≡_ {A = ℕ} 0 1 = cc (facts .same-self x) in omega arith
 
-    among-new : (d : I) (n p : ℕ) → Among d n p → ops .rank (at d n) (at d p) ≡ Higher → Among d (suc n) n
-    among-new d n p a h = record {
+    among-none : Among 0 0
+    among-none = record {
       inside = omega arith;
-      none-above = λ k l e. elim (eq-or-lt-of-le l) [
-        inl q ↦ never-above-self (at d n) (ap (λ m. ops .rank (at d m) (at d n)) (let r : n ≡ k = omega arith in r) ∙ e)
-        | inr q ↦ (let z : _≡_ {A = ℕ} 0 1 = cc (below-new d n p k a h (omega arith)) in omega arith)
-      ];
-      all-below = λ k l. below-new d n p k a h l;
+      none-above = λ k l e. never-above-self (at 0) (ap (λ m. ops .rank (at m) (at 0)) (let r : 0 ≡ k = omega arith in r) ∙ e);
+      all-below = λ k l. absurd (omega arith);
     }
 
-    among-old : (d : I) (n p : ℕ) → Among d n p → (ops .rank (at d n) (at d p) ≡ Higher → ⊥) → Among d (suc n) p
-    among-old d n p a h = record {
+    below-new : (n p i k : ℕ) → Among n p → ops .rank (at i) (at p) ≡ Higher → k ≤ n → ops .rank (at k) (at i) ≡ Lower
+    below-new n p i k a h l =
+        let t : ops .rank (at p) (at i) ≡ Lower = laws .order .rank-turned (at i) (at p) ∙ ap turned h in
+        not-higher _ (ops .rank (at k) (at p)) (a .none-above k l)
+        (λ e. laws .order .lower-trans _ _ _ e t) (λ e. facts .same-lower _ _ _ e t)
+
+    among-new : (n p : ℕ) → Among n p → ops .rank (at (suc n)) (at p) ≡ Higher → Among (suc n) (suc n)
+    among-new n p a h = record {
+      inside = omega arith;
+      none-above = λ k l e. elim (eq-or-lt-of-le l) [
+        | inl q ↦ never-above-self (at (suc n)) (ap (λ m. ops .rank (at m) (at (suc n))) (sym q) ∙ e)
+        | inr q ↦ (let z : _≡_ {A = ℕ} 0 1 = cc (below-new n p (suc n) k a h (omega arith)) in omega arith)
+      ];
+      all-below = λ k l. below-new n p (suc n) k a h (omega arith);
+    }
+
+    among-old : (n p : ℕ) → Among n p → (ops .rank (at (suc n)) (at p) ≡ Higher → ⊥) → Among (suc n) p
+    among-old n p a h = record {
       inside = omega (arith, a .inside);
       none-above = λ k l e. elim (eq-or-lt-of-le l) [
-        inl q ↦ h (ap (λ m. ops .rank (at d m) (at d p)) (let r : n ≡ k = omega arith in r) ∙ e)
+        | inl q ↦ h (ap (λ m. ops .rank (at m) (at p)) (sym q) ∙ e)
         | inr q ↦ a .none-above k (omega arith) e
       ];
       all-below = a .all-below;
     }
 
-    newest-one : (d : I) → newest-among ops d xs 1 ≡ 0
-    newest-one d = by-higher _ (ops .rank (at d 0) (at d 0)) (newest-new d 0 0 (newest-none d)) (newest-old d 0 0 (newest-none d))
+    is-among : (n : ℕ) → Among n (newest-to ops xs n)
+    is-among zero = subst (Among 0) (sym newest-none) among-none
+    is-among (suc n) =
+        let p = newest-to ops xs n in
+        by-higher _ (ops .rank (at (suc n)) (at p))
+        (λ h. subst (Among (suc n)) (sym (newest-more n ∙ newer-new p (suc n) h)) (among-new n p (is-among n) h))
+        (λ h. subst (Among (suc n)) (sym (newest-more n ∙ newer-old p (suc n) h)) (among-old n p (is-among n) h))
 
-    among-one : (d : I) → Among d 1 0
-    among-one d = record {
-      inside = omega arith;
-      none-above = λ k l e. never-above-self (at d 0) (ap (λ m. ops .rank (at d m) (at d 0)) (let r : 0 ≡ k = omega arith in r) ∙ e);
-      all-below = λ k l. absurd (omega arith);
-    }
-
-    is-among : (d : I) (n : ℕ) → Among d (suc n) (newest-among ops d xs (suc n))
-    is-among d zero = subst (Among d 1) (sym (newest-one d)) (among-one d)
-    is-among d (suc n) =
-        let p = newest-among ops d xs (suc n) in
-        by-higher _ (ops .rank (at d (suc n)) (at d p))
-        (λ h. subst (Among d (suc (suc n))) (sym (newest-new d (suc n) p refl h)) (among-new d (suc n) p (is-among d n) h))
-        (λ h. subst (Among d (suc (suc n))) (sym (newest-old d (suc n) p refl h)) (among-old d (suc n) p (is-among d n) h))
-
-    among-all : (d : I) (p : ℕ) → Among d (length xs) p → Newest ops xs p
-    among-all d p a = record {
-      within = a .inside;
-      none-higher = λ k e l h. a .none-above k l (ap (λ v. ops .rank v (at d p)) (getD-default xs k d e l) ∙ ap (ops .rank (at e k)) (getD-default xs p d e (a .inside)) ∙ h);
-      earlier-lower = λ k e l. ap (λ v. ops .rank v (at e p)) (getD-default xs k e d (omega (arith, a .inside))) ∙ ap (ops .rank (at d k)) (getD-default xs p e d (a .inside)) ∙ a .all-below k l;
-    }
-
-  pub searched-none : (xs : List I) → length xs ≡ 0 → _≡_ {A = Option ℕ} None (newest-of ops xs)
-  searched-none [] e = refl
-  searched-none (x ∷ xs) e = absurd (omega arith)
-
-  -- what a search through all instances has found
-  pub searched : (xs : List I) (best : ℕ) → 0 < length xs → ((d : I) → best ≡ newest-among ops d xs (length xs)) → (Some best ≡ newest-of ops xs) × Newest ops xs best
-  searched [] best l e = absurd (omega arith)
-  searched (x ∷ xs) best l e =
-      (ap Some (e x), subst (Newest ops (x ∷ xs)) (sym (e x)) (among-all (x ∷ xs) x _ (is-among (x ∷ xs) x (length xs))))
+    -- what a search through all instances has found
+    pub searched : (best : ℕ) → 0 < length xs → best ≡ newest-to ops xs (length xs - 1) → (Some best ≡ newest-of ops xs) × Newest ops xs best
+    searched best l e =
+        let a = subst (Among (length xs - 1)) (sym e) (is-among (length xs - 1)) in (
+          ap Some e ∙ ap (λ b. cond b None (Some (newest-to ops xs (length xs - 1)))) (let f : false ≡ eqb (length xs) 0 = sym (ne-eqb _ _ (omega arith)) in f),
+          record {
+            within = omega (arith, a .inside);
+            none-higher = λ k b. a .none-above k (omega arith);
+            earlier-lower = a .all-below;
+            order = facts;
+          },
+        )

@@ -19,7 +19,7 @@ order : WeakOrder rank-topology
 order =
     then-order _ _ (key-order (λ (x : Topology). x .sequence) by-number number-order)
     (then-order _ _ (key-order (λ (x : Topology). eqb (x .lifetime) 0) by-expiry expiry-order)
-      (key-order (λ (x : Topology). x .check) by-number number-order))
+    (key-order (λ (x : Topology). x .check) by-number number-order))
 
 abbrev made : ℕ → ℕ → ℕ → Topology
 made s c l = record { sequence = s; check = c; lifetime = l }

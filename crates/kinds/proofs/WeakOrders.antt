@@ -79,11 +79,11 @@ module _ {I : Type 0} (first second : I → I → Rank) (o : WeakOrder first) (q
       let f = order-facts first o in
       then-cases k (first x y) (second x y) ne p _
       (λ a d. then-cases k (first y z) (second y z) ne r _
-        (λ b _. at-first x z k (o .lower-trans x y z a b) d)
-        (λ b _. at-first x z k (f .lower-same x y z a b) d))
+      (λ b _. at-first x z k (o .lower-trans x y z a b) d)
+      (λ b _. at-first x z k (f .lower-same x y z a b) d))
       (λ a c. then-cases k (first y z) (second y z) ne r _
-        (λ b d. at-first x z k (f .same-lower x y z a b) d)
-        (λ b d. at-second x z k (o .same-trans x y z a b) (t x y z c d)))
+      (λ b d. at-first x z k (f .same-lower x y z a b) d)
+      (λ b d. at-second x z k (o .same-trans x y z a b) (t x y z c d)))
 
   pub then-order : WeakOrder (λ x y. then-by (first x y) (second x y))
   then-order = record {

@@ -19,14 +19,14 @@ word32 n h =
     let q : n / 256 / 256 / 256 % 256 ≡ n / 256 / 256 / 256 = omega arith in
     rw (a, b) (omega arith)
 
-read16-fits : (a b : ℕ) → a < 256 → b < 256 → read16 a b < 2 ^ 16
+pub read16-fits : (a b : ℕ) → a < 256 → b < 256 → read16 a b < 2 ^ 16
 read16-fits a b i j = omega arith
 
 read32-fits : (a b c d : ℕ) → a < 256 → b < 256 → c < 256 → d < 256 → read32 a b c d < 2 ^ 32
 read32-fits a b c d i j k l = omega arith
 
 -- the bytes of a number that was read are those that it was read from
-bytes16 : (a b : ℕ) (rest : List ℕ) → a < 256 → b < 256 → write16 (read16 a b) rest ≡ a ∷ b ∷ rest
+pub bytes16 : (a b : ℕ) (rest : List ℕ) → a < 256 → b < 256 → write16 (read16 a b) rest ≡ a ∷ b ∷ rest
 bytes16 a b rest i j =
     let p : read16 a b / 256 % 256 ≡ a = omega arith in
     let q : read16 a b % 256 ≡ b = omega arith in
@@ -43,14 +43,14 @@ bytes32 a b c d rest i j k l =
 low-byte : (n : ℕ) → n % 256 < 256
 low-byte n = omega arith
 
-all16 : (n : ℕ) (rest : List ℕ) → All (λ b. b < 256) rest → All (λ b. b < 256) (write16 n rest)
+pub all16 : (n : ℕ) (rest : List ℕ) → All (λ b. b < 256) rest → All (λ b. b < 256) (write16 n rest)
 all16 n rest h = (low-byte (n / 256), (low-byte n, h))
 
 all32 : (n : ℕ) (rest : List ℕ) → All (λ b. b < 256) rest → All (λ b. b < 256) (write32 n rest)
 all32 n rest h = (low-byte (n / 16777216), (low-byte (n / 65536), (low-byte (n / 256), (low-byte n, h))))
 
 -- a list of eight is its eight elements
-eight : (P : List ℕ → Type 0) → ((a b c d e f g h : ℕ) → P (a ∷ b ∷ c ∷ d ∷ e ∷ f ∷ g ∷ h ∷ [])) → (bs : List ℕ) → length bs ≡ 8 → P bs
+pub eight : (P : List ℕ → Type 0) → ((a b c d e f g h : ℕ) → P (a ∷ b ∷ c ∷ d ∷ e ∷ f ∷ g ∷ h ∷ [])) → (bs : List ℕ) → length bs ≡ 8 → P bs
 eight P k ([]) e = absurd (omega arith)
 eight P k (a ∷ []) e = absurd (omega arith)
 eight P k (a ∷ b ∷ []) e = absurd (omega arith)
@@ -62,7 +62,7 @@ eight P k (a ∷ b ∷ c ∷ d ∷ f ∷ g ∷ h ∷ []) e = absurd (omega arith
 eight P k (a ∷ b ∷ c ∷ d ∷ f ∷ g ∷ h ∷ i ∷ []) e = k a b c d f g h i
 eight P k (a ∷ b ∷ c ∷ d ∷ f ∷ g ∷ h ∷ i ∷ j ∷ rest) e = absurd (omega arith)
 
-abbrev Bytes : List ℕ → Type 0
+abbrev pub Bytes : List ℕ → Type 0
 Bytes = All (λ b. b < 256)
 
 -- eight bytes that are laid out as a number of four bytes and two of two
@@ -76,14 +76,14 @@ pub words-back : (bs : List ℕ) → EightBytes bs → write-words (at32 bs 0) (
 words-back bs h =
     eight (λ xs. Bytes xs → write-words (at32 xs 0) (at16 xs 4) (at16 xs 6) ≡ xs)
     (λ a b c d e f g k l.
-      let t = l .1 .1 .1 .1 in
-      cc (bytes32 a b c d (write16 (read16 e f) (write16 (read16 g k) [])) (l .0) (l .1 .0) (l .1 .1 .0) (l .1 .1 .1 .0), bytes16 e f (write16 (read16 g k) []) (t .0) (t .1 .0), bytes16 g k [] (t .1 .1 .0) (t .1 .1 .1 .0)))
+    let t = l .1 .1 .1 .1 in
+    cc (bytes32 a b c d (write16 (read16 e f) (write16 (read16 g k) [])) (l .0) (l .1 .0) (l .1 .1 .0) (l .1 .1 .1 .0), bytes16 e f (write16 (read16 g k) []) (t .0) (t .1 .0), bytes16 g k [] (t .1 .1 .0) (t .1 .1 .1 .0)))
     bs (h .0) (h .1)
 
 pub words-fit : (bs : List ℕ) → EightBytes bs → (at32 bs 0 < 2 ^ 32) × (at16 bs 4 < 2 ^ 16) × (at16 bs 6 < 2 ^ 16)
 words-fit bs h =
     eight (λ xs. Bytes xs → (at32 xs 0 < 2 ^ 32) × (at16 xs 4 < 2 ^ 16) × (at16 xs 6 < 2 ^ 16))
     (λ a b c d e f g k l.
-      let t = l .1 .1 .1 .1 in
-      (read32-fits a b c d (l .0) (l .1 .0) (l .1 .1 .0) (l .1 .1 .1 .0), read16-fits e f (t .0) (t .1 .0), read16-fits g k (t .1 .1 .0) (t .1 .1 .1 .0)))
+    let t = l .1 .1 .1 .1 in
+    (read32-fits a b c d (l .0) (l .1 .0) (l .1 .1 .0) (l .1 .1 .1 .0), read16-fits e f (t .0) (t .1 .0), read16-fits g k (t .1 .1 .0) (t .1 .1 .1 .0)))
     bs (h .0) (h .1)

@@ -7,7 +7,7 @@ use crate::rank::Rank;
 // Set in an instance that is withdrawn: it is expired whatever its hold time.
 const WITHDRAWN: u16 = 0x8000;
 
-#[derive(Clone, Copy, PartialEq, Eq, Debug)]
+#[derive(Clone, Copy)]
 pub struct Cache {
     pub sequence: i32,
     pub flags: u16,
@@ -28,7 +28,11 @@ pub impl Kind for Cache as CacheKind {
     }
 
     fn write(&self) -> [u8; 8] {
-        let Cache { sequence, flags, hold } = *self;
+        let Cache {
+            sequence,
+            flags,
+            hold,
+        } = *self;
         let [s0, s1, s2, s3] = sequence.to_be_bytes();
         let [f0, f1] = flags.to_be_bytes();
         let [h0, h1] = hold.to_be_bytes();
@@ -43,7 +47,11 @@ pub impl Kind for Cache as CacheKind {
     }
 
     fn left(&self) -> u16 {
-        if self.flags & WITHDRAWN == 0 { self.hold } else { 0 }
+        if self.flags & WITHDRAWN == 0 {
+            self.hold
+        } else {
+            0
+        }
     }
 
     // An expired instance does not age, and what runs out takes the expired form.
@@ -51,20 +59,35 @@ pub impl Kind for Cache as CacheKind {
         match self.left() {
             0 => *self,
             1 => self.expired(),
-            left => Cache { hold: left - 1, ..*self },
+            left => Cache {
+                hold: left - 1,
+                ..*self
+            },
         }
     }
 
     fn expired(&self) -> Cache {
-        Cache { flags: self.flags | WITHDRAWN, hold: 0, ..*self }
+        Cache {
+            flags: self.flags | WITHDRAWN,
+            hold: 0,
+            ..*self
+        }
     }
 
     fn first(_check: u16, time: u16) -> Cache {
-        Cache { sequence: -i32::MAX, flags: 0, hold: time }
+        Cache {
+            sequence: -i32::MAX,
+            flags: 0,
+            hold: time,
+        }
     }
 
     fn next(&self, _check: u16, time: u16) -> Option<Cache> {
         let sequence = self.sequence.checked_add(1)?;
-        Some(Cache { sequence, flags: 0, hold: time })
+        Some(Cache {
+            sequence,
+            flags: 0,
+            hold: time,
+        })
     }
 }

@@ -1,9 +1,9 @@
 // Which instance is newest, and what follows one.
 ghost use mathlib.Core.Path.{_≡_};
+ghost use Prim.Native.Nat.{_<_};
 ghost use lib.ListN.{length};
 ghost use Rattle.std.specs.Options.{Cases};
-ghost use Rattle.kinds.specs.Ranks.{OrderFacts};
-ghost use Rattle.kinds.specs.Recency.{newest-of, Newest, successor-of, Succeeds};
+ghost use Rattle.kinds.specs.Recency.{Newest, Succeeds, newer-of, newest-of, successor-of};
 use crate::kind::Kind;
 use crate::rank::Rank;
 
@@ -11,18 +11,26 @@ use crate::rank::Rank;
 pub fn newest<K: Kind>(instances: &[K]) -> Option<usize>
     ensures value { λ r. ⌜ r ≡ newest-of model (now (instances .entry)) ⌝ }
     ensures newest { λ r. ⌜ Cases r (length (now (instances .entry)) ≡ 0) (Newest model (now (instances .entry))) ⌝ }
-    ensures order { λ _. ⌜ OrderFacts (model .rank) ⌝ }
 {
     if instances.is_empty() {
         return None;
     }
     let mut best = 0;
-    for (i, instance) in instances.iter().enumerate() {
-        if let Rank::Higher = instance.rank(&instances[best]) {
-            best = i;
-        }
+    for i in 1..instances.len() {
+        best = newer(instances, best, i);
     }
     Some(best)
+}
+
+// The index of the newer of two, the first where they rank the same.
+fn newer<K: Kind>(instances: &[K], best: usize, i: usize) -> usize
+    requires { ⌜ best < length (now instances) ⌝ ∗ ⌜ i < length (now instances) ⌝ }
+    ensures { λ r. ⌜ r ≡ newer-of model (now (instances .entry)) best i ⌝ }
+{
+    match instances[i].rank(&instances[best]) {
+        Rank::Higher => i,
+        Rank::Lower | Rank::Same => best,
+    }
 }
 
 // The instance under which an element goes on: the next after the one held, or the first where none is held.

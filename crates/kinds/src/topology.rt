@@ -4,7 +4,7 @@ ghost use Rattle.kinds.specs.Topologies.{topology};
 use crate::kind::Kind;
 use crate::rank::Rank;
 
-#[derive(Clone, Copy, PartialEq, Eq, Debug)]
+#[derive(Clone, Copy)]
 pub struct Topology {
     pub sequence: u32,
     pub check: u16,
@@ -25,7 +25,11 @@ pub impl Kind for Topology as TopologyKind {
     }
 
     fn write(&self) -> [u8; 8] {
-        let Topology { sequence, check, lifetime } = *self;
+        let Topology {
+            sequence,
+            check,
+            lifetime,
+        } = *self;
         let [s0, s1, s2, s3] = sequence.to_be_bytes();
         let [c0, c1] = check.to_be_bytes();
         let [l0, l1] = lifetime.to_be_bytes();
@@ -35,7 +39,7 @@ pub impl Kind for Topology as TopologyKind {
     // The larger sequence, then expired over unexpired, then the larger check.
     fn rank(&self, other: &Topology) -> Rank {
         let sequence = self.sequence.cmp(&other.sequence);
-        let expiry = (self.lifetime == 0).cmp(&(other.lifetime == 0));
+        let expiry = (self.left() == 0).cmp(&(other.left() == 0));
         let check = self.check.cmp(&other.check);
         Rank::of(sequence.then(expiry).then(check))
     }
@@ -45,19 +49,33 @@ pub impl Kind for Topology as TopologyKind {
     }
 
     fn older(&self) -> Topology {
-        Topology { lifetime: self.lifetime.saturating_sub(1), ..*self }
+        Topology {
+            lifetime: self.left().saturating_sub(1),
+            ..*self
+        }
     }
 
     fn expired(&self) -> Topology {
-        Topology { lifetime: 0, ..*self }
+        Topology {
+            lifetime: 0,
+            ..*self
+        }
     }
 
     fn first(check: u16, time: u16) -> Topology {
-        Topology { sequence: 1, check, lifetime: time }
+        Topology {
+            sequence: 1,
+            check,
+            lifetime: time,
+        }
     }
 
     fn next(&self, check: u16, time: u16) -> Option<Topology> {
         let sequence = self.sequence.checked_add(1)?;
-        Some(Topology { sequence, check, lifetime: time })
+        Some(Topology {
+            sequence,
+            check,
+            lifetime: time,
+        })
     }
 }

@@ -3,7 +3,7 @@ use native.Mathlib.Numerals.{add-one}
 use native.Mathlib.Omega.{arith}
 use Rattle.kinds.specs.Ageing.{aged}
 use Rattle.kinds.proofs.AgeingLaws.{aged-none, aged-more, counted}
-use Rattle.kinds.proofs.ageing.after.Needs as need
+use Rattle.kinds.proofs.ageing.older_by.Needs as need
 
 pub loop-second-holds : need.loop-second-holds
 loop-second-holds g c = sym (aged-none (g .K·Kind .model) (g .K·Kind·met .laws) (c .args .instance .now))
@@ -18,6 +18,8 @@ loop-second-again g c =
 
 pub returns : need.returns
 returns g c =
-    let ops = g .K·Kind .model in
-    let f = counted ops (g .K·Kind·met .laws) (c .args .instance .now) (c .loop-second .current) (c .args .seconds) (c .loop-second .-second) (omega (arith, c .left .ensures)) (c .loop-second .inv) in
-    record { value = f .0; course = f .1 }
+    let f = counted (g .K·Kind .model) (g .K·Kind·met .laws) (c .args .instance .now) (c .loop-second .current) in
+    record {
+      value = λ n e. f n (c .loop-second .-second) (omega arith) (c .loop-second .inv) .0;
+      course = λ n e. f n (c .loop-second .-second) (omega arith) (c .loop-second .inv) .1;
+    }
