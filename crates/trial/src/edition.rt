@@ -1,4 +1,10 @@
-// An edition in words: its fields, and which of them made it newer than another.
+// An edition in words: its fields, and the key by which it is newer than another.
+ghost use mathlib.Core.Path.{_≡_};
+ghost use Rattle.kinds.specs.declared.rank.Rank.{Rank};
+ghost use Rattle.kinds.specs.declared.rank.Rank.the-variants.{Higher};
+ghost use Rattle.trial.specs.declared.key.Key.{Key};
+ghost use Rattle.trial.specs.Keys.{cache-by, topology-by};
+use crate::key::Key;
 use kinds::cache::Cache;
 use kinds::cache::CacheKind;
 use kinds::kind::Kind;
@@ -8,13 +14,18 @@ use std::alloc::AllocError;
 use std::alloc::Global;
 
 pub(crate) trait Edition: Kind {
+    ghost by: { Key → Self → Self → Rank };
+
     fn fields(&self, heap: Global) -> Result<String, AllocError>;
 
-    // What this edition, which is newer than the other, has over it.
-    fn advantage(&self, other: &Self) -> &'static str;
+    // Where this edition is newer than the other, it is newer by the key that is answered.
+    fn newer_by(&self, other: &Self) -> Key
+        ensures { λ r. ⌜ (Self·Kind .model .rank (now (self .entry)) (now (other .entry)) ≡ Higher → by r (now (self .entry)) (now (other .entry)) ≡ Higher) ⌝ };
 }
 
 pub impl Edition for Topology as TopologyEdition {
+    ghost by = { topology-by };
+
     fn fields(&self, heap: Global) -> Result<String, AllocError> {
         let Topology {
             sequence,
@@ -27,18 +38,20 @@ pub impl Edition for Topology as TopologyEdition {
         )
     }
 
-    fn advantage(&self, other: &Topology) -> &'static str {
+    fn newer_by(&self, other: &Topology) -> Key {
         if self.sequence != other.sequence {
-            "its sequence is larger"
+            Key::Sequence
         } else if self.is_expired() != other.is_expired() {
-            "it is expired, at the same sequence"
+            Key::Expiry
         } else {
-            "its check is larger, at the same sequence and equally expired"
+            Key::Check
         }
     }
 }
 
 pub impl Edition for Cache as CacheEdition {
+    ghost by = { cache-by };
+
     fn fields(&self, heap: Global) -> Result<String, AllocError> {
         let Cache {
             sequence,
@@ -51,11 +64,11 @@ pub impl Edition for Cache as CacheEdition {
         )
     }
 
-    fn advantage(&self, other: &Cache) -> &'static str {
+    fn newer_by(&self, other: &Cache) -> Key {
         if self.sequence != other.sequence {
-            "its sequence is larger"
+            Key::Sequence
         } else {
-            "it is expired, at the same sequence"
+            Key::Expiry
         }
     }
 }

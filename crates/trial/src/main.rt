@@ -1,6 +1,7 @@
 // `trial`: what a release tester runs. `trial editions` says what captured editions of an element are.
 mod edition;
 mod hex;
+mod key;
 mod report;
 mod request;
 
@@ -24,7 +25,11 @@ use std::io;
 const USAGE: &str = "usage: trial editions [FILE]";
 
 fn main(rt: LibcRuntime) -> Result<(), AnyError> {
-    rt.report(run(&rt))
+    let outcome = run(&rt);
+    if let Err(error) = &outcome {
+        eprintln!(rt, "trial: {error}")?;
+    }
+    outcome
 }
 
 fn run(rt: &LibcRuntime) -> Result<(), AnyError> {
@@ -58,7 +63,7 @@ fn editions(rt: &LibcRuntime, text: &str) -> Result<(), AnyError> {
         }
     }
     if bad {
-        return Err("nothing is reported: correct the lines above".into());
+        return Err("the lines above are no requests, and nothing is reported".into());
     }
     for (i, request) in requests.iter() {
         answer(rt, i.saturating_add(1), request)?;

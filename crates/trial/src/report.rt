@@ -36,11 +36,11 @@ fn one<E: Edition>(
     let bytes = edition.write();
     let hex = Hex(&bytes);
     let fields = edition.fields(rt.alloc())?;
-    println!(rt, "  edition {number}  {hex}  {fields}")?;
+    println!(rt, "  edition {number} is {hex}: {fields}")?;
     course(rt, request.after, edition)?;
     let bytes = edition.expired().write();
     let hex = Hex(&bytes);
-    println!(rt, "    expired form     {hex}")?;
+    println!(rt, "    its expired form is {hex}")?;
     next(rt, request.check, request.time, edition)
 }
 
@@ -48,20 +48,16 @@ fn one<E: Edition>(
 fn course<E: Edition>(rt: &LibcRuntime, seconds: u32, edition: &E) -> io::Result<()> {
     let left = edition.left();
     if left == 0 {
-        println!(rt, "    time left        none: it is expired")?;
-    } else {
-        let last = ageing::after(edition, u32::from(left)).write();
-        let hex = Hex(&last);
-        println!(
-            rt,
-            "    time left        {left} s, then it runs out as {hex}"
-        )?;
+        return println!(rt, "    it is expired and does not age");
     }
+    let last = ageing::after(edition, u32::from(left)).write();
+    let end = Hex(&last);
+    println!(rt, "    it has {left} s left, and runs out then as {end}")?;
     let later = ageing::after(edition, seconds);
     let bytes = later.write();
     let hex = Hex(&bytes);
-    let left = later.left();
-    println!(rt, "    after {seconds} s: {hex}, {left} s left")
+    let rest = later.left();
+    println!(rt, "    {seconds} s later it is {hex}, with {rest} s left")
 }
 
 fn next<E: Edition>(rt: &LibcRuntime, check: u16, time: u16, edition: &E) -> io::Result<()> {
@@ -69,18 +65,16 @@ fn next<E: Edition>(rt: &LibcRuntime, check: u16, time: u16, edition: &E) -> io:
         Some(following) => {
             let bytes = following.write();
             let hex = Hex(&bytes);
-            println!(
-                rt,
-                "    next edition     {hex}, with check {check} and time {time}"
-            )
+            println!(rt, "    next, with check {check} and {time} s, comes {hex}")
         }
-        None => println!(rt, "    next edition     none: its sequence is the last"),
+        None => println!(rt, "    none comes next, as its sequence is the last"),
     }
 }
 
+// Which edition is newest, and why.
 fn newest<E: Edition>(rt: &LibcRuntime, best: usize, editions: &[E]) -> io::Result<()> {
     let number = best.saturating_add(1);
-    println!(rt, "  newest     {number}")?;
+    println!(rt, "  the newest is edition {number}")?;
     let Some(newest) = editions.get(best) else {
         return Ok(());
     };
@@ -88,10 +82,10 @@ fn newest<E: Edition>(rt: &LibcRuntime, best: usize, editions: &[E]) -> io::Resu
         let other = i.saturating_add(1);
         match newest.rank(edition) {
             Rank::Higher => {
-                let why = newest.advantage(edition);
-                println!(rt, "    newer than {other}: {why}")?;
+                let reason = newest.newer_by(edition).reason();
+                println!(rt, "    newer than edition {other}: {reason}")?;
             }
-            Rank::Same if i != best => println!(rt, "    the same as {other}")?,
+            Rank::Same if i != best => println!(rt, "    the same as edition {other}")?,
             _ => {}
         }
     }
