@@ -21,7 +21,7 @@ impl Odd {
         ensures { λ r. ⌜ r ≡ key-of (now (self .entry)) ⌝ }
     {
         let step = u32::from(self.step);
-        if self.time == 0 { step + 1 } else { step }
+        if self.left() == 0 { step + 1 } else { step }
     }
 }
 
@@ -63,7 +63,7 @@ pub impl Kind for Odd as OddKind {
     }
 
     fn older(&self) -> Odd {
-        match self.time {
+        match self.left() {
             0 => *self,
             time => Odd {
                 time: time - 1,
