@@ -32,7 +32,7 @@ bytes16 a b rest i j =
     let q : read16 a b % 256 ≡ b = omega arith in
     cc
 
-bytes32 : (a b c d : ℕ) (rest : List ℕ) → a < 256 → b < 256 → c < 256 → d < 256 → write32 (read32 a b c d) rest ≡ a ∷ b ∷ c ∷ d ∷ rest
+pub bytes32 : (a b c d : ℕ) (rest : List ℕ) → a < 256 → b < 256 → c < 256 → d < 256 → write32 (read32 a b c d) rest ≡ a ∷ b ∷ c ∷ d ∷ rest
 bytes32 a b c d rest i j k l =
     let p : read32 a b c d / 16777216 % 256 ≡ a = omega arith in
     let q : read32 a b c d / 65536 % 256 ≡ b = omega arith in

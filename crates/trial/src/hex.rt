@@ -3,6 +3,8 @@ ghost use mathlib.Core.Path.{_≡_};
 ghost use Prim.Native.Nat.{_<_};
 ghost use Rattle.std.specs.Options.{Cases};
 ghost use Rattle.trial.specs.Hex.{digit-of};
+use std::alloc::AllocError;
+use std::alloc::Global;
 use std::fmt;
 
 #[derive(Clone, Copy)]
@@ -44,4 +46,29 @@ pub(crate) fn eight(text: &str) -> Option<[u8; 8]> {
         bytes[i] = high * 16 + low;
     }
     Some(bytes)
+}
+
+// The bytes that digits stand for, in pairs; spaces between them do not count. `None` where there is anything else.
+pub(crate) fn bytes(heap: Global, text: &str) -> Result<Option<Vec<u8>>, AllocError> {
+    let mut all = Vec::new(heap);
+    let mut high = None;
+    for b in text.bytes() {
+        if b.is_ascii_whitespace() {
+            continue;
+        }
+        let Some(low) = digit(b) else {
+            return Ok(None);
+        };
+        match high {
+            None => high = Some(low),
+            Some(first) => {
+                all.push(first << 4 | low)?;
+                high = None;
+            }
+        }
+    }
+    match high {
+        None => Ok(Some(all)),
+        Some(_) => Ok(None),
+    }
 }

@@ -1,0 +1,5 @@
+pub mod BackLaws
+pub mod ClearedLaws
+pub mod EncodingLaws
+pub mod FrameLaws
+pub mod ReportLaws

@@ -1,0 +1,11 @@
+pub mod Acknowledgements
+pub mod Bundles
+pub mod Cleared
+pub mod Contents
+pub mod Encodings
+pub mod Groups
+pub mod Headers
+pub mod Layouts
+pub mod Named
+pub mod Requests
+pub mod Summaries
