@@ -322,7 +322,7 @@ fn written(rt: &LibcRuntime, style: Style, bytes: &[u8]) -> io::Result<()> {
     let hex = Hex(back);
     match style {
         Style::Plain => println!(rt, " written {hex}"),
-        Style::Words if back == bytes => println!(rt, "  written back as it was\n"),
+        Style::Words if back == bytes => println!(rt, "  written back as it was: {hex}\n"),
         Style::Words => println!(rt, "  written back with its reserved bytes zero: {hex}\n"),
     }
 }
