@@ -31,7 +31,7 @@ use Rattle.packets.specs.Encodings.{acknowledged-bytes, described-bytes, descri
 use Rattle.packets.specs.Cleared.{clear-content, clear-two}
 use Rattle.packets.specs.Groups.{Split, content-fault, contents, split-group}
 use Rattle.packets.specs.Bundles.{element-at}
-use Rattle.packets.specs.Contents.{PacketView, Raw, acknowledged-group, decode, described-group, groups-of, kind-of, raw, requested-group, said, viewed-packet}
+use Rattle.packets.specs.Contents.{PacketView, Raw, acknowledged-group, decode, described-group, groups-of, raw-type, raw, requested-group, said, viewed-packet}
 use Rattle.packets.specs.Contents.Raw.{bundle, acknowledgement, summary, request}
 use Rattle.packets.proofs.GroupLaws.{split-facts, split-shorter}
 use Rattle.packets.specs.Summaries.{description-at, description-of}
@@ -245,12 +245,12 @@ bare c (inl (x, e)) = (ap (λ v. first-part (raw v)) e, ap (λ v. second-part (r
 bare c (inr (x, e)) = (ap (λ v. first-part (raw v)) e, ap (λ v. second-part (raw v)) e)
 
 -- and are begun by their header alone
-pub bare-begun : (r : Raw) (newest oldest : ℕ) (o : Result Open HeaderFault) (t : PacketType) (buffer out : List ℕ) → (first-part r ≡ []) × (second-part r ≡ []) → t ≡ kind-of r → o ≡ begun (length buffer) [] [] → out ≡ begun-bytes buffer t newest oldest [] [] → (o ≡ begun (length buffer) (first-part r) (second-part r)) × (out ≡ begun-bytes buffer (kind-of r) newest oldest (first-part r) (second-part r))
+pub bare-begun : (r : Raw) (newest oldest : ℕ) (o : Result Open HeaderFault) (t : PacketType) (buffer out : List ℕ) → (first-part r ≡ []) × (second-part r ≡ []) → t ≡ raw-type r → o ≡ begun (length buffer) [] [] → out ≡ begun-bytes buffer t newest oldest [] [] → (o ≡ begun (length buffer) (first-part r) (second-part r)) × (out ≡ begun-bytes buffer (raw-type r) newest oldest (first-part r) (second-part r))
 bare-begun r newest oldest o t buffer out n k s b = (
   s ∙ sym (ap (λ xs. begun (length buffer) xs []) (n .0)) ∙ sym (ap (begun (length buffer) (first-part r)) (n .1)),
   b ∙ ap (λ v. begun-bytes buffer v newest oldest [] []) k
-      ∙ sym (ap (λ xs. begun-bytes buffer (kind-of r) newest oldest xs []) (n .0))
-      ∙ sym (ap (begun-bytes buffer (kind-of r) newest oldest (first-part r)) (n .1)),
+      ∙ sym (ap (λ xs. begun-bytes buffer (raw-type r) newest oldest xs []) (n .0))
+      ∙ sym (ap (begun-bytes buffer (raw-type r) newest oldest (first-part r)) (n .1)),
 )
 
 -- how far groups were written: some bytes stand behind the draft's end, and the rest is left
@@ -330,10 +330,10 @@ contents-again t at bytes cs = ap joined (ap (map (framed t)) (map-map bytes at 
 
 -- the groups of a packet, written again
 abbrev groups-part : Raw → List ℕ
-groups-part r = groups-again (length (groups-of r)) (kind-of r) (groups-of r)
+groups-part r = groups-again (length (groups-of r)) (raw-type r) (groups-of r)
 
 -- the groups of a packet, by their type and bytes
-groups-are : (r : Raw) (t : PacketType) (gs : List ℕ) → t ≡ kind-of r → gs ≡ groups-of r → groups-again (length gs) t gs ≡ groups-part r
+groups-are : (r : Raw) (t : PacketType) (gs : List ℕ) → t ≡ raw-type r → gs ≡ groups-of r → groups-again (length gs) t gs ≡ groups-part r
 groups-are r t gs k g = ap (λ xs. groups-again (length xs) t xs) g ∙ ap (λ v. groups-again (length (groups-of r)) v (groups-of r)) k
 
 -- what a packet says, from its parts
@@ -341,7 +341,7 @@ abbrev packet-of : Raw → ℕ → ℕ → PacketView
 packet-of r newest oldest = record { newest = newest; oldest = oldest; said = said r }
 
 -- a packet is its header, the part behind it and its groups
-encode-parts : (r : Raw) (newest oldest : ℕ) → encode (packet-of r newest oldest) ≡ headed (kind-of r) newest oldest ((first-part r ++ second-part r) ++ groups-part r)
+encode-parts : (r : Raw) (newest oldest : ℕ) → encode (packet-of r newest oldest) ≡ headed (raw-type r) newest oldest ((first-part r ++ second-part r) ++ groups-part r)
 encode-parts (bundle n g bs) newest oldest =
     ap (λ xs. headed type.Bundle newest oldest ((n ++ g) ++ xs)) (contents-again type.Bundle element-at element-bytes (contents (length bs) type.Bundle bs))
 encode-parts (acknowledgement bs) newest oldest =
@@ -398,7 +398,7 @@ module _ (r : Raw) (newest oldest n : ℕ) (room : length (encode (packet-of r n
       same o m h = let k : o ≡ record { len = m } = cc in ap (λ v. v .len) k
 
   -- and its groups fit behind it
-  pub groups-fit : (o : Open) (t : PacketType) (gs : List ℕ) → Ok o ≡ begun n (first-part r) (second-part r) → t ≡ kind-of r → gs ≡ groups-of r → o .len + length (groups-again (length gs) t gs) ≤ min n 2048
+  pub groups-fit : (o : Open) (t : PacketType) (gs : List ℕ) → Ok o ≡ begun n (first-part r) (second-part r) → t ≡ raw-type r → gs ≡ groups-of r → o .len + length (groups-again (length gs) t gs) ≤ min n 2048
   groups-fit o t gs e k g =
       let l = encode-long in
       let d = draft-long o e in
@@ -406,7 +406,7 @@ module _ (r : Raw) (newest oldest n : ℕ) (room : length (encode (packet-of r n
       omega arith
 
 -- a packet begun, filled with its groups and finished
-pub finished-back : (r : Raw) (newest oldest : ℕ) (o h : Open) (f : Finished) (t : PacketType) (gs buffer mid last out : List ℕ) → length (encode (packet-of r newest oldest)) ≤ min (length buffer) 2048 → Ok o ≡ begun (length buffer) (first-part r) (second-part r) → mid ≡ begun-bytes buffer (kind-of r) newest oldest (first-part r) (second-part r) → t ≡ kind-of r → gs ≡ groups-of r → h ≡ record { len = o .len + length (groups-again (length gs) t gs) } → last ≡ pasted (o .len) (groups-again (length gs) t gs) mid → f ≡ finished h → out ≡ finished-bytes h last → (f .len ≡ length (encode (packet-of r newest oldest))) × (out ≡ pasted 0 (encode (packet-of r newest oldest)) buffer)
+pub finished-back : (r : Raw) (newest oldest : ℕ) (o h : Open) (f : Finished) (t : PacketType) (gs buffer mid last out : List ℕ) → length (encode (packet-of r newest oldest)) ≤ min (length buffer) 2048 → Ok o ≡ begun (length buffer) (first-part r) (second-part r) → mid ≡ begun-bytes buffer (raw-type r) newest oldest (first-part r) (second-part r) → t ≡ raw-type r → gs ≡ groups-of r → h ≡ record { len = o .len + length (groups-again (length gs) t gs) } → last ≡ pasted (o .len) (groups-again (length gs) t gs) mid → f ≡ finished h → out ≡ finished-bytes h last → (f .len ≡ length (encode (packet-of r newest oldest))) × (out ≡ pasted 0 (encode (packet-of r newest oldest)) buffer)
 finished-back r newest oldest o h f t gs buffer mid last out room e m k g u v w x =
     let a = first-part r in
     let b = second-part r in
@@ -414,11 +414,11 @@ finished-back r newest oldest o h f t gs buffer mid last out room e m k g u v w 
     let is = groups-are r t gs k g in
     let at = draft-long r newest oldest (length buffer) room o e in
     let l = encode-long r newest oldest (length buffer) room in
-    let begin : mid ≡ pasted 0 (begin-bytes (kind-of r) newest oldest a b) buffer = m ∙ cond-true _ _ _ (begin-fits r newest oldest (length buffer) room) in
+    let begin : mid ≡ pasted 0 (begin-bytes (raw-type r) newest oldest a b) buffer = m ∙ cond-true _ _ _ (begin-fits r newest oldest (length buffer) room) in
     let len : h .len ≡ o .len + length xs = ap (λ y. y .len) u ∙ ap (λ ys. o .len + length ys) is in (
       ap (λ y. y .len) w ∙ len ∙ omega arith,
       x ∙ ap (λ y. put16-at 2 y last) len
           ∙ ap (put16-at 2 (o .len + length xs)) (v ∙ ap (λ ys. pasted (o .len) ys mid) is ∙ ap (pasted (o .len) xs) begin)
-          ∙ packet-written (kind-of r) newest oldest (o .len) a b xs buffer at (omega arith)
+          ∙ packet-written (raw-type r) newest oldest (o .len) a b xs buffer at (omega arith)
           ∙ sym (ap (λ ys. pasted 0 ys buffer) (encode-parts r newest oldest)),
     )

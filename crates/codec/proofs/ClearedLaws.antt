@@ -30,7 +30,7 @@ use Rattle.packets.specs.Bundles.{element-at}
 use Rattle.packets.specs.Cleared.{clear-two, clear-content, clear-group, clear-groups, clear-part}
 use Rattle.packets.specs.Contents.Raw.{bundle, acknowledgement, summary, request}
 use Rattle.packets.specs.Contents.{Raw, Said, PacketView, said, groups-of, part-of, checked, decode-part, decode-header, decode, entries, acknowledged-group, described-group, requested-group}
-use Rattle.packets.specs.Encodings.{joined, element-bytes, entry-bytes, description-bytes, number-bytes, acknowledged-bytes, described-bytes, requested-bytes, said-kind, said-fixed, said-contents, framed, headed, encode}
+use Rattle.packets.specs.Encodings.{joined, element-bytes, entry-bytes, description-bytes, number-bytes, acknowledged-bytes, described-bytes, requested-bytes, said-type, said-fixed, said-contents, framed, headed, encode}
 use Rattle.packets.specs.Groups.{Split, count-fault, content-fault, split-group, after-group, first-fault, before-misfit, contents}
 use Rattle.packets.specs.Headers.{typed-header, header-of}
 use Rattle.packets.specs.Layouts.{number-of, type-of, group-number-of, group-fixed-of}
@@ -357,11 +357,11 @@ groups-back t at bytes again k bs le all e =
 
 -- what stands behind the header
 abbrev written : Said → List ℕ
-written s = said-fixed s ++ joined (map (framed (said-kind s)) (said-contents s))
+written s = said-fixed s ++ joined (map (framed (said-type s)) (said-contents s))
 
 -- what is known of the part behind a header
 record PartBack (t : PacketType) (part : List ℕ) (r : Raw) : Type 0 where
-  kind : said-kind (said r) ≡ t
+  of-type : said-type (said r) ≡ t
   back : written (said r) ≡ clear-part (Some t) part
   kept : length (clear-part (Some t) part) ≡ length part
 
@@ -396,7 +396,7 @@ part-back type.Bundle part r e all sound =
     let k = groups-kept type.Bundle (length part) gs (omega arith) n in
     subst (PartBack type.Bundle part) (sym q)
     (record {
-      kind = refl;
+      of-type = refl;
       back = ap (λ xs. (take 22 part ++ take 14 (drop 22 part)) ++ xs) w ∙ sym (ap (λ xs. xs ++ clear-groups (length part) type.Bundle gs) (take-add 22 14 part));
       kept = length-append (take 36 part) (clear-groups (length part) type.Bundle gs) ∙ (let m = length-take-le 36 part le in omega arith);
     })
@@ -405,7 +405,7 @@ part-back type.Acknowledgement part r e all sound =
     let n : None ≡ first-fault (length part) type.Acknowledgement part = subst (λ v. None ≡ first-fault (length (groups-of v)) type.Acknowledgement (groups-of v)) q sound in
     subst (PartBack type.Acknowledgement part) (sym q)
     (record {
-      kind = refl;
+      of-type = refl;
       back = groups-back type.Acknowledgement acknowledged-group acknowledged-bytes (again-clear type.Acknowledgement) (length part) part (omega arith) all n;
       kept = groups-kept type.Acknowledgement (length part) part (omega arith) n;
     })
@@ -419,7 +419,7 @@ part-back type.Summary part r e all sound =
     let k = groups-kept type.Summary (length part) gs (omega arith) n in
     subst (PartBack type.Summary part) (sym (f .1))
     (record {
-      kind = refl;
+      of-type = refl;
       back = eight-back part _ le all ∙ ap (λ xs. clear-two (take 8 part) ++ xs) w;
       kept = length-append (clear-two (take 8 part)) (clear-groups (length part) type.Summary gs) ∙ (let m = length-take-le 8 part le in let d = two-kept (take 8 part) (omega arith) in omega arith);
     })
@@ -428,7 +428,7 @@ part-back type.Request part r e all sound =
     let n : None ≡ first-fault (length part) type.Request part = subst (λ v. None ≡ first-fault (length (groups-of v)) type.Request (groups-of v)) q sound in
     subst (PartBack type.Request part) (sym q)
     (record {
-      kind = refl;
+      of-type = refl;
       back = groups-back type.Request requested-group requested-bytes (again-clear type.Request) (length part) part (omega arith) all n;
       kept = groups-kept type.Request (length part) part (omega arith) n;
     })
@@ -439,15 +439,15 @@ record HeaderKnown (bs : List ℕ) (h : Header) : Type 0 where
   most : length bs ≤ 2048
   whole : at16 bs 2 ≡ length bs
   version : getD bs 4 0 ≡ 1
-  kind : type-of (at16 bs 0) ≡ Some (h .kind)
+  of-type : type-of (at16 bs 0) ≡ Some (h .«packet_type»)
   newest : h .newest ≡ getD bs 5 0
   oldest : h .oldest ≡ getD bs 6 0
 
-past-type : (bs : List ℕ) (h : Header) (o : Option PacketType) → Ok h ≡ typed-header bs o → (o ≡ Some (h .kind)) × (h .newest ≡ getD bs 5 0) × (h .oldest ≡ getD bs 6 0)
+past-type : (bs : List ℕ) (h : Header) (o : Option PacketType) → Ok h ≡ typed-header bs o → (o ≡ Some (h .«packet_type»)) × (h .newest ≡ getD bs 5 0) × (h .oldest ≡ getD bs 6 0)
 past-type bs h None e = absurd (let z : _≡_ {A = ℕ} 0 1 = cc in omega arith)
 past-type bs h (Some t) e =
-    let q : h ≡ record { kind = t; newest = getD bs 5 0; oldest = getD bs 6 0 } = cc in
-    (sym (ap (λ v. Some (v .kind)) q), ap (λ v. v .newest) q, ap (λ v. v .oldest) q)
+    let q : h ≡ record { «packet_type» = t; newest = getD bs 5 0; oldest = getD bs 6 0 } = cc in
+    (sym (ap (λ v. Some (v .«packet_type»)) q), ap (λ v. v .newest) q, ap (λ v. v .oldest) q)
 
 header-known : (bs : List ℕ) (h : Header) → Ok h ≡ header-of bs → HeaderKnown bs h
 header-known bs h e =
@@ -461,7 +461,7 @@ header-known bs h e =
       most = ltb-false _ _ (b .0);
       whole = eqb-true _ _ (c .0);
       version = eqb-true _ _ (d .0);
-      kind = f .0;
+      of-type = f .0;
       newest = f .1;
       oldest = f .2;
     }
@@ -473,19 +473,19 @@ type-number n type.Acknowledgement e = grind (arith, tells)
 type-number n type.Summary e = grind (arith, tells)
 type-number n type.Request e = grind (arith, tells)
 
-headed-back : (bs : List ℕ) (h : Header) (out : List ℕ) → HeaderKnown bs h → Bytes bs → 8 + length out ≡ at16 bs 2 → headed (h .kind) (h .newest) (h .oldest) out ≡ take 7 bs ++ (0 ∷ out)
+headed-back : (bs : List ℕ) (h : Header) (out : List ℕ) → HeaderKnown bs h → Bytes bs → 8 + length out ≡ at16 bs 2 → headed (h .«packet_type») (h .newest) (h .oldest) out ≡ take 7 bs ++ (0 ∷ out)
 headed-back bs h out k all e =
-    let t = type-number (at16 bs 0) (h .kind) (k .kind) in
+    let t = type-number (at16 bs 0) (h .«packet_type») (k .of-type) in
     let v = k .version in
     let n = k .newest in
     let o = k .oldest in
     cc (header-back bs out (k .least) all)
 
-past-header : (bs : List ℕ) (p : PacketView) (o : Result Header HeaderFault) → Ok p ≡ decode-header bs o → (h : Header) × (Ok h ≡ o) × (Ok p ≡ decode-part (length bs) h (part-of (h .kind) (drop 8 bs)))
+past-header : (bs : List ℕ) (p : PacketView) (o : Result Header HeaderFault) → Ok p ≡ decode-header bs o → (h : Header) × (Ok h ≡ o) × (Ok p ≡ decode-part (length bs) h (part-of (h .«packet_type») (drop 8 bs)))
 past-header bs p (Ok h) e = (h, refl, e)
 past-header bs p (Err f) e = absurd (let z : _≡_ {A = ℕ} 0 1 = cc in omega arith)
 
-past-part : (n : ℕ) (h : Header) (p : PacketView) (o : Option Raw) → Ok p ≡ decode-part n h o → (r : Raw) × (Some r ≡ o) × (Ok p ≡ checked n h r (first-fault (length (groups-of r)) (h .kind) (groups-of r)))
+past-part : (n : ℕ) (h : Header) (p : PacketView) (o : Option Raw) → Ok p ≡ decode-part n h o → (r : Raw) × (Some r ≡ o) × (Ok p ≡ checked n h r (first-fault (length (groups-of r)) (h .«packet_type») (groups-of r)))
 past-part n h p None e = absurd (let z : _≡_ {A = ℕ} 0 1 = cc in omega arith)
 past-part n h p (Some r) e = (r, refl, e)
 
@@ -499,16 +499,16 @@ written-back bs p all e =
     let a = past-header bs p (header-of bs) e in
     let h = a .0 in
     let part = drop 8 bs in
-    let b = past-part (length bs) h p (part-of (h .kind) part) (a .2) in
+    let b = past-part (length bs) h p (part-of (h .«packet_type») part) (a .2) in
     let r = b .0 in
     let c = past-check (length bs) h r p _ (b .2) in
     let k = header-known bs h (a .1) in
-    let q = part-back (h .kind) part r (b .1) (all-drop _ 8 bs all) (c .0) in
-    let out = clear-part (Some (h .kind)) part in
+    let q = part-back (h .«packet_type») part r (b .1) (all-drop _ 8 bs all) (c .0) in
+    let out = clear-part (Some (h .«packet_type»)) part in
     let l : 8 + length out ≡ at16 bs 2 = let m = length-drop 8 bs in omega (arith, q .kept, k .least, k .whole) in
-    let w : encode p ≡ headed (h .kind) (h .newest) (h .oldest) out = ap encode (c .1) ∙ ap (λ t. headed t (h .newest) (h .oldest) (written (said r))) (q .kind) ∙ ap (headed (h .kind) (h .newest) (h .oldest)) (q .back) in
+    let w : encode p ≡ headed (h .«packet_type») (h .newest) (h .oldest) out = ap encode (c .1) ∙ ap (λ t. headed t (h .newest) (h .oldest) (written (said r))) (q .of-type) ∙ ap (headed (h .«packet_type») (h .newest) (h .oldest)) (q .back) in
     record {
-      bytes = w ∙ headed-back bs h out k all l ∙ sym (ap (λ o. take 7 bs ++ (0 ∷ clear-part o part)) (k .kind));
+      bytes = w ∙ headed-back bs h out k all l ∙ sym (ap (λ o. take 7 bs ++ (0 ∷ clear-part o part)) (k .of-type));
       long = ap length w ∙ omega (arith, k .whole);
       short = k .most;
     }

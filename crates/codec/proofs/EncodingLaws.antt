@@ -29,7 +29,7 @@ use Rattle.packets.specs.Bundles.{BundleView, ElementView, element-at, bundle-o
 use Rattle.packets.specs.Contents.{AcknowledgedGroup, DescribedGroup, RequestedGroup, acknowledged-group, described-group, requested-group, Raw, Said, PacketView, entries, groups-of, bundle-part, summary-part, part-of, said, checked, decode-part, decode-header, decode}
 use Rattle.packets.specs.Contents.Raw.{bundle as raw-bundle, acknowledgement as raw-acknowledgement, summary as raw-summary, request as raw-request}
 use Rattle.packets.specs.Contents.Said.{bundle, acknowledgement, summary, request}
-use Rattle.packets.specs.Encodings.{joined, element-bytes, entry-bytes, description-bytes, number-bytes, acknowledged-bytes, described-bytes, requested-bytes, said-kind, said-fixed, said-contents, framed, headed, encode, ElementFits, EntryFits, DescriptionFits, AcknowledgedFits, DescribedFits, RequestedFits, SaidFits, Fits}
+use Rattle.packets.specs.Encodings.{joined, element-bytes, entry-bytes, description-bytes, number-bytes, acknowledged-bytes, described-bytes, requested-bytes, said-type, said-fixed, said-contents, framed, headed, encode, ElementFits, EntryFits, DescriptionFits, AcknowledgedFits, DescribedFits, RequestedFits, SaidFits, Fits}
 use Rattle.packets.specs.declared.group.GroupFault.the-variants as fault
 use Rattle.packets.specs.Groups.{count-fault, content-fault, contents, first-fault}
 use Rattle.packets.specs.Headers.{header-of, typed-header}
@@ -45,12 +45,12 @@ at16-behind xs ys n e =
     let r : getD (xs ++ ys) (n + 1) 0 ≡ getD ys 1 0 = ap (λ m. getD (xs ++ ys) m 0) (let q : n + 1 ≡ length xs + 1 = omega arith in q) ∙ getD-append-add xs ys 1 0 in
     cc
 
-same-element : {k l n m : ℕ} {i j b c : List ℕ} → k ≡ l → n ≡ m → i ≡ j → b ≡ c → _≡_ {A = ElementView} (record { kind = k; number = n; instance = i; body = b }) (record { kind = l; number = m; instance = j; body = c })
+same-element : {k l n m : ℕ} {i j b c : List ℕ} → k ≡ l → n ≡ m → i ≡ j → b ≡ c → _≡_ {A = ElementView} (record { element-type = k; number = n; instance = i; body = b }) (record { element-type = l; number = m; instance = j; body = c })
 same-element p q r s = cc
 
 element-back : (e : ElementView) → ElementFits e → element-at (element-bytes e) ≡ e
 element-back e f =
-    same-element (word16 (e .kind) (f .kind)) (word32 (e .number) (f .number)) (take-at (e .instance) (e .body) 8 (f .instance)) (drop-at (e .instance) (e .body) 8 (f .instance))
+    same-element (word16 (e .element-type) (f .element-type)) (word32 (e .number) (f .number)) (take-at (e .instance) (e .body) 8 (f .instance)) (drop-at (e .instance) (e .body) 8 (f .instance))
 
 same-entry : {n m : ℕ} {i j : List ℕ} → n ≡ m → i ≡ j → _≡_ {A = Acknowledged} (record { number = n; instance = i }) (record { number = m; instance = j })
 same-entry p q = cc
@@ -58,12 +58,12 @@ same-entry p q = cc
 entry-back : (a : Acknowledged) (rest : List ℕ) → EntryFits a → entry-at (entry-bytes a ++ rest) ≡ a
 entry-back a rest f = same-entry (word32 (a .number) (f .number)) (take-at (a .instance) rest 8 (f .instance))
 
-same-description : {k l n m : ℕ} {i j : List ℕ} → k ≡ l → n ≡ m → i ≡ j → _≡_ {A = Description} (record { kind = k; number = n; instance = i }) (record { kind = l; number = m; instance = j })
+same-description : {k l n m : ℕ} {i j : List ℕ} → k ≡ l → n ≡ m → i ≡ j → _≡_ {A = Description} (record { «element_type» = k; number = n; instance = i }) (record { «element_type» = l; number = m; instance = j })
 same-description p q r = cc
 
 description-back : (d : Description) (rest : List ℕ) → DescriptionFits d → description-at (description-bytes d ++ rest) ≡ d
 description-back d rest f =
-    same-description (word16 (d .kind) (f .kind)) (word32 (d .number) (f .number)) (take-at (d .instance) rest 8 (f .instance))
+    same-description (word16 (d .«element_type») (f .element-type)) (word32 (d .number) (f .number)) (take-at (d .instance) rest 8 (f .instance))
 
 number-back : (n : ℕ) (rest : List ℕ) → n < 2 ^ 32 → number-at (number-bytes n ++ rest) ≡ n
 number-back n rest f = word32 n f
@@ -202,7 +202,7 @@ typed type.Summary = refl
 typed type.Request = refl
 
 abbrev header : PacketType → ℕ → ℕ → Header
-header t newest oldest = record { kind = t; newest = newest; oldest = oldest }
+header t newest oldest = record { «packet_type» = t; newest = newest; oldest = oldest }
 
 header-back : (t : PacketType) (newest oldest : ℕ) (part : List ℕ) → 8 + length part ≤ 2048 → header-of (headed t newest oldest part) ≡ Ok (header t newest oldest)
 header-back t newest oldest part l =
@@ -252,7 +252,7 @@ summary-back : (f d : ℕ) (G : List ℕ) → f < 2 ^ 16 → d < 2 ^ 32 → summ
 summary-back f d G a b =
     cond-false _ _ _ (le-ltb (length (write16 f (0 ∷ 0 ∷ write32 d []) ++ G)) 8 (omega arith)) ∙ same-summary (word16 f a) (word32 d b) refl
 
-said-back : (N newest oldest : ℕ) (s : Said) → SaidFits s → length (joined (map (framed (said-kind s)) (said-contents s))) ≤ 2048 → decode-part N (header (said-kind s) newest oldest) (part-of (said-kind s) (said-fixed s ++ joined (map (framed (said-kind s)) (said-contents s)))) ≡ Ok (record { newest = newest; oldest = oldest; said = s })
+said-back : (N newest oldest : ℕ) (s : Said) → SaidFits s → length (joined (map (framed (said-type s)) (said-contents s))) ≤ 2048 → decode-part N (header (said-type s) newest oldest) (part-of (said-type s) (said-fixed s ++ joined (map (framed (said-type s)) (said-contents s)))) ≡ Ok (record { newest = newest; oldest = oldest; said = s })
 said-back N newest oldest (bundle n g es) f l =
     parts-back N newest oldest type.Bundle _ (raw-bundle n g (written type.Bundle element-bytes es)) _
     (ap bundle-part (bundle-back n g (written type.Bundle element-bytes es) (f .0) (f .1 .0)))
@@ -276,7 +276,7 @@ said-back N newest oldest (request gs) f l =
 pub read-back : (p : PacketView) → Fits p → decode (encode p) ≡ Ok p
 read-back p f =
     let s = p .said in
-    let t = said-kind s in
+    let t = said-type s in
     let groups = joined (map (framed t) (said-contents s)) in
     let part = said-fixed s ++ groups in
     let long = length-append (said-fixed s) groups in

@@ -35,17 +35,17 @@ use Rattle.codec.proofs.ClearedLaws.{type-number}
 record Headed (bs : List ℕ) (t : PacketType) : Type 0 where
   whole : Whole bs
   version : getD bs 4 0 ≡ 1
-  kind : type-of (at16 bs 0) ≡ Some t
+  of-type : type-of (at16 bs 0) ≡ Some t
 
 -- what the answer to a header says of the bytes
 abbrev HeaderTold : List ℕ → Result Header HeaderFault → Type 0
-HeaderTold bs (Ok h) = Headed bs (h .kind)
+HeaderTold bs (Ok h) = Headed bs (h .«packet_type»)
 HeaderTold bs (Err f) = HeaderReported bs f
 
 -- an unknown type is refused
 type-told : (bs : List ℕ) (o : Option PacketType) → type-of (at16 bs 0) ≡ o → Whole bs → getD bs 4 0 ≡ 1 → HeaderTold bs (typed-header bs o)
 type-told bs None e whole version = (whole, (version, e))
-type-told bs (Some t) e whole version = record { whole = whole; version = version; kind = e }
+type-told bs (Some t) e whole version = record { whole = whole; version = version; of-type = e }
 
 -- a header is refused for what its fault says, or read as one of a type
 header-told : (bs : List ℕ) → HeaderTold bs (header-of bs)
@@ -106,25 +106,25 @@ module _ (t : PacketType) where
       cond-both _ _ _ (Placed t bs) (λ e. tt)
       (λ e. let n = eqb-false (length bs) 0 e in placed-after (first-fault k t) (placed k) bs (split-group t bs) refl (omega arith))
 
-module _ (bs : List ℕ) (h : Header) (k : Headed bs (h .kind)) where
+module _ (bs : List ℕ) (h : Header) (k : Headed bs (h .«packet_type»)) where
   -- a packet's answer reports its first misfit, and a part that is cut
-  misfit-reported : (r : Raw) (o : Option Misfit) → Placed (h .kind) bs o → refused (checked (length bs) h r o) (Reported bs)
+  misfit-reported : (r : Raw) (o : Option Misfit) → Placed (h .«packet_type») bs o → refused (checked (length bs) h r o) (Reported bs)
   misfit-reported r None p = tt
   misfit-reported r (Some m) p =
       let e : p .0 ≡ length bs - m .left = omega (arith, p .1) in
-      (k .whole, (omega (arith, p .1, p .2), (h .kind, (k .kind, ap (λ j. split-group (h .kind) (drop j bs)) (sym e) ∙ p .3))))
+      (k .whole, (omega (arith, p .1, p .2), (h .«packet_type», (k .of-type, ap (λ j. split-group (h .«packet_type») (drop j bs)) (sym e) ∙ p .3))))
 
-  part-reported : (o : Option Raw) → PartTold bs (h .kind) o → refused (decode-part (length bs) h o) (Reported bs)
+  part-reported : (o : Option Raw) → PartTold bs (h .«packet_type») o → refused (decode-part (length bs) h o) (Reported bs)
   part-reported None p =
-      let n = type-number (at16 bs 0) (h .kind) (k .kind) in
+      let n = type-number (at16 bs 0) (h .«packet_type») (k .of-type) in
       (k .whole, (k .version, elim p [ inl q ↦ inl (sym n ∙ q .0, q .1) | inr q ↦ inr (sym n ∙ q .0, q .1) ]))
   part-reported (Some r) p =
       let gs = groups-of r in
-      misfit-reported r _ (placed-behind (h .kind) (p .0) bs gs (p .1) (p .2) _ (placed (h .kind) (length gs) gs))
+      misfit-reported r _ (placed-behind (h .«packet_type») (p .0) bs gs (p .1) (p .2) _ (placed (h .«packet_type») (length gs) gs))
 
 -- from the header's answer to the packet's
 header-reported : (bs : List ℕ) (o : Result Header HeaderFault) → HeaderTold bs o → refused (decode-header bs o) (Reported bs)
-header-reported bs (Ok h) k = part-reported bs h k _ (part-told bs (h .kind) (k .whole .0))
+header-reported bs (Ok h) k = part-reported bs h k _ (part-told bs (h .«packet_type») (k .whole .0))
 header-reported bs (Err f) p = p
 
 -- What is said of a fault holds where reading gives it.

@@ -13,7 +13,7 @@ use Rattle.packets.specs.declared.layout.PacketType.the-variants as type
 use Rattle.packets.specs.declared.packet.Fault.{Fault}
 use Rattle.packets.specs.declared.packet.Packet.{Packet}
 use Rattle.packets.specs.Bundles.{element-at}
-use Rattle.packets.specs.Contents.{PacketView, Raw, acknowledged-group, described-group, entries, kind-of, raw, requested-group, said}
+use Rattle.packets.specs.Contents.{PacketView, Raw, acknowledged-group, described-group, entries, raw-type, raw, requested-group, said}
 use Rattle.packets.specs.Contents.Raw.{bundle, acknowledgement, summary, request}
 use Rattle.packets.specs.Cleared.{clear-two, cleared}
 use Rattle.packets.specs.Encodings.{acknowledged-bytes, described-bytes, element-bytes, encode, framed, joined, requested-bytes}
@@ -54,8 +54,8 @@ second-part (acknowledgement bs) = []
 second-part (summary f d bs) = []
 second-part (request bs) = []
 
-abbrev pub kind-part : Packet → PacketType
-kind-part p = kind-of (raw (p .content))
+abbrev pub part-type : Packet → PacketType
+part-type p = raw-type (raw (p .content))
 
 -- descriptions with their reserved bytes zero
 abbrev pub cleared-entries : ℕ → List ℕ → List ℕ

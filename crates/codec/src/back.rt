@@ -12,7 +12,7 @@ ghost use Rattle.packets.specs.Encodings.{description-bytes, encode, framed};
 ghost use Rattle.packets.specs.Groups.{content-fault};
 ghost use Rattle.packets.specs.Layouts.{group-fixed-of};
 ghost use Rattle.writer.specs.Writers.{begun, begun-bytes, pasted};
-ghost use Rattle.codec.specs.Backs.{Back, Reason, back-answer, back-bytes, cleared-entries, first-part, group-again, groups-again, kind-part, second-part, view-of};
+ghost use Rattle.codec.specs.Backs.{Back, Reason, back-answer, back-bytes, cleared-entries, first-part, group-again, groups-again, part-type, second-part, view-of};
 ghost use Rattle.codec.specs.Faithful.{Faithful};
 ghost use Rattle.codec.specs.Reports.{Reported};
 use packets::group::split_group;
@@ -74,7 +74,7 @@ fn write(packet: &Packet<'_>, buffer: &mut [u8]) -> usize
     let draft = write_groups(
         draft,
         buffer,
-        packet.content.kind(),
+        packet.content.packet_type(),
         packet.content.groups(),
     );
     let Finished { len } = draft.finish(buffer);
@@ -83,15 +83,15 @@ fn write(packet: &Packet<'_>, buffer: &mut [u8]) -> usize
 
 fn begin(packet: &Packet<'_>, buffer: &mut [u8]) -> Result<Open, HeaderFault>
     ensures state { λ r. ⌜ r ≡ begun (length (now (buffer .entry))) (first-part (raw (now (packet .entry) .content))) (second-part (raw (now (packet .entry) .content))) ⌝ }
-    ensures bytes { λ _. ⌜ now (buffer .exit) ≡ begun-bytes (now (buffer .entry)) (kind-part (now (packet .entry))) (now (packet .entry) .newest) (now (packet .entry) .oldest) (first-part (raw (now (packet .entry) .content))) (second-part (raw (now (packet .entry) .content))) ⌝ }
+    ensures bytes { λ _. ⌜ now (buffer .exit) ≡ begun-bytes (now (buffer .entry)) (part-type (now (packet .entry))) (now (packet .entry) .newest) (now (packet .entry) .oldest) (first-part (raw (now (packet .entry) .content))) (second-part (raw (now (packet .entry) .content))) ⌝ }
 {
-    let kind = packet.content.kind();
+    let of = packet.content.packet_type();
     let newest = packet.newest;
     let oldest = packet.oldest;
     match packet.content {
         Content::Bundle(bundle) => Open::begin(
             buffer,
-            kind,
+            of,
             newest,
             oldest,
             &bundle.node.bytes,
@@ -102,7 +102,7 @@ fn begin(packet: &Packet<'_>, buffer: &mut [u8]) -> Result<Open, HeaderFault>
             let [d0, d1, d2, d3] = summary.ds_number.to_be_bytes();
             Open::begin(
                 buffer,
-                kind,
+                of,
                 newest,
                 oldest,
                 &[f0, f1, 0, 0, d0, d1, d2, d3],
@@ -111,7 +111,7 @@ fn begin(packet: &Packet<'_>, buffer: &mut [u8]) -> Result<Open, HeaderFault>
         }
         Content::Acknowledgement(_) | Content::Request(_) => Open::begin(
             buffer,
-            kind,
+            of,
             newest,
             oldest,
             &[],
@@ -121,43 +121,43 @@ fn begin(packet: &Packet<'_>, buffer: &mut [u8]) -> Result<Open, HeaderFault>
 }
 
 // The groups up to one that breaks its layout.
-fn write_groups(draft: Open, buffer: &mut [u8], kind: PacketType, groups: &[u8]) -> Open
-    requires { ⌜ draft .len + length (groups-again (length (now groups)) kind (now groups)) ≤ min (length (now buffer)) 2048 ⌝ }
-    ensures state { λ r. ⌜ r ≡ record { len = draft .len + length (groups-again (length (now (groups .entry))) kind (now (groups .entry))) } ⌝ }
-    ensures bytes { λ _. ⌜ now (buffer .exit) ≡ pasted (draft .len) (groups-again (length (now (groups .entry))) kind (now (groups .entry))) (now (buffer .entry)) ⌝ }
+fn write_groups(draft: Open, buffer: &mut [u8], of: PacketType, groups: &[u8]) -> Open
+    requires { ⌜ draft .len + length (groups-again (length (now groups)) of (now groups)) ≤ min (length (now buffer)) 2048 ⌝ }
+    ensures state { λ r. ⌜ r ≡ record { len = draft .len + length (groups-again (length (now (groups .entry))) of (now (groups .entry))) } ⌝ }
+    ensures bytes { λ _. ⌜ now (buffer .exit) ≡ pasted (draft .len) (groups-again (length (now (groups .entry))) of (now (groups .entry))) (now (buffer .entry)) ⌝ }
 {
     let mut draft = draft;
     let mut rest = groups;
-    while let Ok(group) = split_group(kind, rest) {
-        draft = write_group(draft, buffer, kind, group.content);
+    while let Ok(group) = split_group(of, rest) {
+        draft = write_group(draft, buffer, of, group.content);
         rest = group.rest;
     }
     draft
 }
 
-fn write_group(draft: Open, buffer: &mut [u8], kind: PacketType, content: &[u8]) -> Open
-    requires sound { ⌜ content-fault kind (now content) ≡ None ⌝ }
-    requires least { ⌜ group-fixed-of kind ≤ 4 + length (now content) ⌝ }
-    requires room { ⌜ draft .len + length (group-again kind (now content)) ≤ min (length (now buffer)) 2048 ⌝ }
-    ensures state { λ r. ⌜ r ≡ record { len = draft .len + length (group-again kind (now (content .entry))) } ⌝ }
-    ensures bytes { λ _. ⌜ now (buffer .exit) ≡ pasted (draft .len) (group-again kind (now (content .entry))) (now (buffer .entry)) ⌝ }
+fn write_group(draft: Open, buffer: &mut [u8], of: PacketType, content: &[u8]) -> Open
+    requires sound { ⌜ content-fault of (now content) ≡ None ⌝ }
+    requires least { ⌜ group-fixed-of of ≤ 4 + length (now content) ⌝ }
+    requires room { ⌜ draft .len + length (group-again of (now content)) ≤ min (length (now buffer)) 2048 ⌝ }
+    ensures state { λ r. ⌜ r ≡ record { len = draft .len + length (group-again of (now (content .entry))) } ⌝ }
+    ensures bytes { λ _. ⌜ now (buffer .exit) ≡ pasted (draft .len) (group-again of (now (content .entry))) (now (buffer .entry)) ⌝ }
 {
-    match kind {
+    match of {
         PacketType::Bundle => {
             let (first, rest) = content.split_at(2);
             let (_, third) = rest.split_at(2);
-            write_pieces(draft, buffer, kind, first, &[0, 0], third, &[])
+            write_pieces(draft, buffer, of, first, &[0, 0], third, &[])
         }
         PacketType::Summary => {
             let (ids, rest) = content.split_at(36);
             let (_, rest) = rest.split_at(2);
             let (count, entries) = rest.split_at(2);
-            write_pieces(draft, buffer, kind, ids, &[0, 0], count, entries)
+            write_pieces(draft, buffer, of, ids, &[0, 0], count, entries)
         }
         PacketType::Acknowledgement | PacketType::Request => write_pieces(
             draft,
             buffer,
-            kind,
+            of,
             content,
             &[],
             &[],
@@ -170,7 +170,7 @@ fn write_group(draft: Open, buffer: &mut [u8], kind: PacketType, content: &[u8])
 fn write_pieces(
     draft: Open,
     buffer: &mut [u8],
-    kind: PacketType,
+    of: PacketType,
     first: &[u8],
     second: &[u8],
     third: &[u8],
@@ -178,10 +178,10 @@ fn write_pieces(
 ) -> Open
     requires whole { ⌜ length (now entries) % 16 ≡ 0 ⌝ }
     requires room { ⌜ draft .len + (4 + (length (now first) + (length (now second) + (length (now third) + length (now entries))))) ≤ min (length (now buffer)) 2048 ⌝ }
-    ensures state { λ r. ⌜ r ≡ record { len = draft .len + length (framed kind ((now (first .entry) ++ (now (second .entry) ++ now (third .entry))) ++ cleared-entries (length (now (entries .entry))) (now (entries .entry)))) } ⌝ }
-    ensures bytes { λ _. ⌜ now (buffer .exit) ≡ pasted (draft .len) (framed kind ((now (first .entry) ++ (now (second .entry) ++ now (third .entry))) ++ cleared-entries (length (now (entries .entry))) (now (entries .entry)))) (now (buffer .entry)) ⌝ }
+    ensures state { λ r. ⌜ r ≡ record { len = draft .len + length (framed of ((now (first .entry) ++ (now (second .entry) ++ now (third .entry))) ++ cleared-entries (length (now (entries .entry))) (now (entries .entry)))) } ⌝ }
+    ensures bytes { λ _. ⌜ now (buffer .exit) ≡ pasted (draft .len) (framed of ((now (first .entry) ++ (now (second .entry) ++ now (third .entry))) ++ cleared-entries (length (now (entries .entry))) (now (entries .entry)))) (now (buffer .entry)) ⌝ }
 {
-    match draft.group(buffer, kind, first, second, third) {
+    match draft.group(buffer, of, first, second, third) {
         Ok(group) => write_descriptions(group, buffer, entries).close(buffer),
         Err(Declined { state, fault: _ }) => state,
     }
@@ -208,11 +208,11 @@ fn write_description(group: GroupOpen, buffer: &mut [u8], description: Descripti
     ensures bytes { λ _. ⌜ now (buffer .exit) ≡ pasted (group .len) (description-bytes description) (now (buffer .entry)) ⌝ }
 {
     let Description {
-        kind,
+        element_type,
         number,
         instance,
     } = description;
-    let [k0, k1] = kind.to_be_bytes();
+    let [k0, k1] = element_type.to_be_bytes();
     let [n0, n1, n2, n3] = number.to_be_bytes();
     match group.add(buffer, &[k0, k1, 0, 0, n0, n1, n2, n3], &instance) {
         Ok(group) => group,

@@ -16,7 +16,7 @@ pub record BundleView : Type 0 where
   pub groups : List ℕ
 
 pub record ElementView : Type 0 where
-  pub kind : ℕ
+  pub element-type : ℕ
   pub number : ℕ
   pub instance : List ℕ
   pub body : List ℕ
@@ -33,11 +33,11 @@ bundle-of part =
 
 abbrev pub viewed-element : Option Element → Option ElementView
 viewed-element None = None
-viewed-element (Some e) = Some (record { kind = e .kind; number = e .number; instance = e .instance; body = e .body .now })
+viewed-element (Some e) = Some (record { element-type = e .«element_type»; number = e .number; instance = e .instance; body = e .body .now })
 
 -- type, two reserved bytes, number, instance, body
 abbrev pub element-at : List ℕ → ElementView
-element-at c = record { kind = at16 (take 8 c) 0; number = at32 (take 8 c) 4; instance = take 8 (drop 8 c); body = drop 8 (drop 8 c) }
+element-at c = record { element-type = at16 (take 8 c) 0; number = at32 (take 8 c) 4; instance = take 8 (drop 8 c); body = drop 8 (drop 8 c) }
 
 abbrev pub element-of : List ℕ → Option ElementView
 element-of c = cond (ltb (length c) 16) None (Some (element-at c))

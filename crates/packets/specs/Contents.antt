@@ -36,11 +36,11 @@ pub data Raw : Type 0 where
   summary : ℕ → ℕ → List ℕ → Raw
   request : List ℕ → Raw
 
-abbrev pub kind-of : Raw → PacketType
-kind-of (bundle n g bs) = type.Bundle
-kind-of (acknowledgement bs) = type.Acknowledgement
-kind-of (summary f d bs) = type.Summary
-kind-of (request bs) = type.Request
+abbrev pub raw-type : Raw → PacketType
+raw-type (bundle n g bs) = type.Bundle
+raw-type (acknowledgement bs) = type.Acknowledgement
+raw-type (summary f d bs) = type.Summary
+raw-type (request bs) = type.Request
 
 abbrev pub groups-of : Raw → List ℕ
 groups-of (bundle n g bs) = bs
@@ -132,11 +132,11 @@ checked n h r (Some m) = Err (GroupFaulty (m .fault) (n - m .left))
 
 abbrev pub decode-part : ℕ → Header → Option Raw → Result PacketView Fault
 decode-part n h None = Err (HeaderFaulty header-fault.Cut)
-decode-part n h (Some r) = checked n h r (first-fault (length (groups-of r)) (h .kind) (groups-of r))
+decode-part n h (Some r) = checked n h r (first-fault (length (groups-of r)) (h .«packet_type») (groups-of r))
 
 abbrev pub decode-header : List ℕ → Result Header HeaderFault → Result PacketView Fault
 decode-header bs (Err f) = Err (HeaderFaulty f)
-decode-header bs (Ok h) = decode-part (length bs) h (part-of (h .kind) (drop 8 bs))
+decode-header bs (Ok h) = decode-part (length bs) h (part-of (h .«packet_type») (drop 8 bs))
 
 -- the content of a packet, or the first fault found
 abbrev pub decode : List ℕ → Result PacketView Fault

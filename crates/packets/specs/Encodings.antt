@@ -21,7 +21,7 @@ joined (bs ∷ rest) = bs ++ joined rest
 
 -- type, two reserved bytes, number, instance, body
 abbrev pub element-bytes : ElementView → List ℕ
-element-bytes e = write16 (e .kind) (0 ∷ 0 ∷ write32 (e .number) (e .instance ++ e .body))
+element-bytes e = write16 (e .element-type) (0 ∷ 0 ∷ write32 (e .number) (e .instance ++ e .body))
 
 -- number, instance
 abbrev pub entry-bytes : Acknowledged → List ℕ
@@ -29,7 +29,7 @@ entry-bytes a = write32 (a .number) (a .instance)
 
 -- type, two reserved bytes, number, instance
 abbrev pub description-bytes : Description → List ℕ
-description-bytes d = write16 (d .kind) (0 ∷ 0 ∷ write32 (d .number) (d .instance))
+description-bytes d = write16 (d .«element_type») (0 ∷ 0 ∷ write32 (d .number) (d .instance))
 
 abbrev pub number-bytes : ℕ → List ℕ
 number-bytes n = write32 n []
@@ -46,11 +46,11 @@ described-bytes g = g .node ++ (g .group ++ (0 ∷ 0 ∷ write16 (length (g .ent
 abbrev pub requested-bytes : RequestedGroup → List ℕ
 requested-bytes g = g .node ++ write16 (length (g .numbers)) (joined (map number-bytes (g .numbers)))
 
-abbrev pub said-kind : Said → PacketType
-said-kind (bundle n g es) = type.Bundle
-said-kind (acknowledgement gs) = type.Acknowledgement
-said-kind (summary f d gs) = type.Summary
-said-kind (request gs) = type.Request
+abbrev pub said-type : Said → PacketType
+said-type (bundle n g es) = type.Bundle
+said-type (acknowledgement gs) = type.Acknowledgement
+said-type (summary f d gs) = type.Summary
+said-type (request gs) = type.Request
 
 -- what stands between the header and the groups
 abbrev pub said-fixed : Said → List ℕ
@@ -76,11 +76,11 @@ headed t newest oldest part = write16 (number-of t) (write16 (8 + length part) (
 
 abbrev pub encode : PacketView → List ℕ
 encode p =
-    headed (said-kind (p .said)) (p .newest) (p .oldest)
-    (said-fixed (p .said) ++ joined (map (framed (said-kind (p .said))) (said-contents (p .said))))
+    headed (said-type (p .said)) (p .newest) (p .oldest)
+    (said-fixed (p .said) ++ joined (map (framed (said-type (p .said))) (said-contents (p .said))))
 
 pub record ElementFits (e : ElementView) : Type 0 where
-  pub kind : e .kind < 2 ^ 16
+  pub element-type : e .element-type < 2 ^ 16
   pub number : e .number < 2 ^ 32
   pub instance : length (e .instance) ≡ 8
   pub body : length (e .body) ≤ 256
@@ -91,7 +91,7 @@ pub record EntryFits (a : Acknowledged) : Type 0 where
   pub instance : length (a .instance) ≡ 8
 
 pub record DescriptionFits (d : Description) : Type 0 where
-  pub kind : d .kind < 2 ^ 16
+  pub element-type : d .«element_type» < 2 ^ 16
   pub number : d .number < 2 ^ 32
   pub instance : length (d .instance) ≡ 8
 

@@ -17,7 +17,7 @@ use Rattle.packets.specs.Layouts.{type-of}
 
 abbrev pub typed-header : List ℕ → Option PacketType → Result Header HeaderFault
 typed-header bs None = Err fault.Type
-typed-header bs (Some t) = Ok (record { kind = t; newest = getD bs 5 0; oldest = getD bs 6 0 })
+typed-header bs (Some t) = Ok (record { «packet_type» = t; newest = getD bs 5 0; oldest = getD bs 6 0 })
 
 abbrev pub header-of : List ℕ → Result Header HeaderFault
 header-of bs =

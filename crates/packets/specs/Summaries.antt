@@ -50,7 +50,7 @@ viewed-description (Some p) = Some (p .0, p .1 .now)
 
 -- type, two reserved bytes, number, instance
 abbrev pub description-at : List ℕ → Description
-description-at es = record { kind = at16 (take 8 es) 0; number = at32 (take 8 es) 4; instance = take 8 (drop 8 es) }
+description-at es = record { «element_type» = at16 (take 8 es) 0; number = at32 (take 8 es) 4; instance = take 8 (drop 8 es) }
 
 abbrev pub description-of : List ℕ → Option (Description × List ℕ)
 description-of es = cond (ltb (length es) 16) None (Some (description-at es, drop 8 (drop 8 es)))

@@ -13,7 +13,7 @@ pub struct Bundle<'a> {
 
 #[derive(Clone, Copy)]
 pub struct Element<'a> {
-    pub kind: u16,
+    pub element_type: u16,
     pub number: u32,
     pub instance: [u8; 8],
     pub body: &'a [u8],
@@ -42,7 +42,7 @@ impl<'a> Element<'a> {
         let ([k0, k1, _, _, n0, n1, n2, n3], rest) = content.split_first_chunk::<8>()?;
         let (instance, body) = rest.split_first_chunk::<8>()?;
         Some(Element {
-            kind: u16::from_be_bytes([*k0, *k1]),
+            element_type: u16::from_be_bytes([*k0, *k1]),
             number: u32::from_be_bytes([*n0, *n1, *n2, *n3]),
             instance: *instance,
             body,

@@ -5,7 +5,7 @@ use crate::layout::PacketType;
 
 #[derive(Clone, Copy)]
 pub struct Header {
-    pub kind: PacketType,
+    pub packet_type: PacketType,
     pub newest: u8,
     pub oldest: u8,
 }
@@ -52,11 +52,11 @@ pub fn read_header(packet: &[u8]) -> Result<Header, HeaderFault>
     if *version != 1 {
         return Err(HeaderFault::Version);
     }
-    let Some(kind) = PacketType::of(u16::from_be_bytes([*type_high, *type_low])) else {
+    let Some(packet_type) = PacketType::of(u16::from_be_bytes([*type_high, *type_low])) else {
         return Err(HeaderFault::Type);
     };
     Ok(Header {
-        kind,
+        packet_type,
         newest: *newest,
         oldest: *oldest,
     })

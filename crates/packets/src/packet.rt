@@ -1,6 +1,6 @@
 // A whole packet, read and checked.
 ghost use mathlib.Core.Path.{_≡_};
-ghost use Rattle.packets.specs.Contents.{decode, groups-of, kind-of, part-of, raw, viewed-packet, viewed-part};
+ghost use Rattle.packets.specs.Contents.{decode, groups-of, raw-type, part-of, raw, viewed-packet, viewed-part};
 use crate::bundle::Bundle;
 use crate::group::GroupFault;
 use crate::group::first_misfit;
@@ -34,10 +34,10 @@ pub enum Fault {
 
 impl<'a> Content<'a> {
     // From what follows the header; `None` where it is cut.
-    fn read(kind: PacketType, part: &'a [u8]) -> Option<Content<'a>>
-        ensures { λ r. ⌜ viewed-part r ≡ part-of kind (now (part .entry)) ⌝ }
+    fn read(of: PacketType, part: &'a [u8]) -> Option<Content<'a>>
+        ensures { λ r. ⌜ viewed-part r ≡ part-of of (now (part .entry)) ⌝ }
     {
-        match kind {
+        match of {
             PacketType::Bundle => Some(Content::Bundle(Bundle::read(part)?)),
             PacketType::Acknowledgement => Some(Content::Acknowledgement(part)),
             PacketType::Summary => Some(Content::Summary(Summary::read(part)?)),
@@ -45,8 +45,8 @@ impl<'a> Content<'a> {
         }
     }
 
-    pub fn kind(&self) -> PacketType
-        ensures { λ r. ⌜ r ≡ kind-of (raw (now (self .entry))) ⌝ }
+    pub fn packet_type(&self) -> PacketType
+        ensures { λ r. ⌜ r ≡ raw-type (raw (now (self .entry))) ⌝ }
     {
         match self {
             Content::Bundle(_) => PacketType::Bundle,
@@ -78,10 +78,10 @@ pub fn read(bytes: &[u8]) -> Result<Packet<'_>, Fault>
     let Some((_, part)) = bytes.split_first_chunk::<8>() else {
         return Err(Fault::Header(HeaderFault::Short));
     };
-    let Some(content) = Content::read(header.kind, part) else {
+    let Some(content) = Content::read(header.packet_type, part) else {
         return Err(Fault::Header(HeaderFault::Cut));
     };
-    match first_misfit(header.kind, content.groups()) {
+    match first_misfit(header.packet_type, content.groups()) {
         Some(misfit) => Err(Fault::Group {
             fault: misfit.fault,
             at: bytes.len().saturating_sub(misfit.left),

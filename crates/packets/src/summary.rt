@@ -27,7 +27,7 @@ pub struct Described<'a> {
 
 #[derive(Clone, Copy)]
 pub struct Description {
-    pub kind: u16,
+    pub element_type: u16,
     pub number: u32,
     pub instance: [u8; 8],
 }
@@ -71,11 +71,11 @@ impl Description {
     {
         let ([k0, k1, _, _, n0, n1, n2, n3], rest) = entries.split_first_chunk::<8>()?;
         let (instance, rest) = rest.split_first_chunk::<8>()?;
-        let kind = u16::from_be_bytes([*k0, *k1]);
+        let element_type = u16::from_be_bytes([*k0, *k1]);
         let number = u32::from_be_bytes([*n0, *n1, *n2, *n3]);
         Some((
             Description {
-                kind,
+                element_type,
                 number,
                 instance: *instance,
             },

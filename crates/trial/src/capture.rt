@@ -125,7 +125,7 @@ fn group_fault(fault: GroupFault) -> &'static str {
 }
 
 fn content(rt: &LibcRuntime, style: Style, packet: &Packet<'_>) -> io::Result<()> {
-    let name = match packet.content.kind() {
+    let name = match packet.content.packet_type() {
         PacketType::Bundle => "bundle",
         PacketType::Acknowledgement => "acknowledgement",
         PacketType::Summary => "summary",
@@ -166,21 +166,21 @@ fn bundle(rt: &LibcRuntime, style: Style, bundle: &Bundle<'_>) -> io::Result<()>
 }
 
 fn element(rt: &LibcRuntime, style: Style, element: &Element<'_>) -> io::Result<()> {
-    let kind = element.kind;
+    let element_type = element.element_type;
     let number = element.number;
     let instance = Hex(&element.instance);
     let body = Hex(element.body);
     let none = element.body.is_empty();
     match style {
-        Style::Plain if none => print!(rt, " element {kind} {number} {instance} -"),
-        Style::Plain => print!(rt, " element {kind} {number} {instance} {body}"),
+        Style::Plain if none => print!(rt, " element {element_type} {number} {instance} -"),
+        Style::Plain => print!(rt, " element {element_type} {number} {instance} {body}"),
         Style::Words if none => println!(
             rt,
-            "    element {number}, type {kind}, instance {instance}, no body"
+            "    element {number}, type {element_type}, instance {instance}, no body"
         ),
         Style::Words => println!(
             rt,
-            "    element {number}, type {kind}, instance {instance}, body {body}"
+            "    element {number}, type {element_type}, instance {instance}, body {body}"
         ),
     }
 }
@@ -270,12 +270,15 @@ fn descriptions(rt: &LibcRuntime, style: Style, described: &Described<'_>) -> io
         let Some((entry, behind)) = Description::split(rest) else {
             break;
         };
-        let kind = entry.kind;
+        let element_type = entry.element_type;
         let number = entry.number;
         let instance = Hex(&entry.instance);
         match style {
-            Style::Plain => print!(rt, " entry {kind} {number} {instance}")?,
-            Style::Words => println!(rt, "    element {number}, type {kind}, instance {instance}")?,
+            Style::Plain => print!(rt, " entry {element_type} {number} {instance}")?,
+            Style::Words => println!(
+                rt,
+                "    element {number}, type {element_type}, instance {instance}"
+            )?,
         }
         rest = behind;
     }

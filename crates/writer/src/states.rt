@@ -36,19 +36,19 @@ impl Open {
     // The header, and the part after it, which comes in two pieces.
     pub fn begin(
         buffer: &mut [u8],
-        kind: PacketType,
+        of: PacketType,
         newest: u8,
         oldest: u8,
         first: &[u8],
         second: &[u8],
     ) -> Result<Open, HeaderFault>
         ensures state { λ r. ⌜ r ≡ begun (length (now (buffer .entry))) (now (first .entry)) (now (second .entry)) ⌝ }
-        ensures bytes { λ _. ⌜ now (buffer .exit) ≡ begun-bytes (now (buffer .entry)) kind newest oldest (now (first .entry)) (now (second .entry)) ⌝ }
+        ensures bytes { λ _. ⌜ now (buffer .exit) ≡ begun-bytes (now (buffer .entry)) of newest oldest (now (first .entry)) (now (second .entry)) ⌝ }
     {
         if !fits(0, buffer, 8, first, second, &[]) {
             return Err(HeaderFault::Long);
         }
-        let [high, low] = kind.number().to_be_bytes();
+        let [high, low] = of.number().to_be_bytes();
         append(
             buffer,
             0,
@@ -66,13 +66,13 @@ impl Open {
     pub fn group(
         self,
         buffer: &mut [u8],
-        kind: PacketType,
+        of: PacketType,
         first: &[u8],
         second: &[u8],
         third: &[u8],
     ) -> Result<GroupOpen, Declined<Open>>
         ensures state { λ r. ⌜ r ≡ grouped self (length (now (buffer .entry))) (now (first .entry)) (now (second .entry)) (now (third .entry)) ⌝ }
-        ensures bytes { λ _. ⌜ now (buffer .exit) ≡ grouped-bytes self (now (buffer .entry)) kind (now (first .entry)) (now (second .entry)) (now (third .entry)) ⌝ }
+        ensures bytes { λ _. ⌜ now (buffer .exit) ≡ grouped-bytes self (now (buffer .entry)) of (now (first .entry)) (now (second .entry)) (now (third .entry)) ⌝ }
     {
         let Open { len } = self;
         if !fits(len, buffer, 4, first, second, third) {
@@ -81,7 +81,7 @@ impl Open {
                 fault: HeaderFault::Long,
             });
         }
-        let [high, low] = kind.group_number().to_be_bytes();
+        let [high, low] = of.group_number().to_be_bytes();
         append(
             buffer,
             usize::from(len),

@@ -5,7 +5,7 @@ use Rattle.codec.proofs.BackLaws.{grouped-none, group-fits, grouped-more, grou
 use Rattle.codec.proofs.back.write_groups.Needs as need
 
 pub loop-group-holds : need.loop-group-holds
-loop-group-holds c = grouped-none (c .args .kind) (c .args .groups .now) (c .args .buffer .now) (c .args .draft)
+loop-group-holds c = grouped-none (c .args .of) (c .args .groups .now) (c .args .buffer .now) (c .args .draft)
 
 pub write-group-draft-requires : need.write-group-draft-requires
 write-group-draft-requires c κs =
@@ -16,7 +16,7 @@ write-group-draft-requires c κs =
 pub loop-group-less : need.loop-group-less
 loop-group-less c =
     let s : Split = record { content = c .in-Ok .group .content .now; rest = c .in-Ok .group .rest .now } in
-    omega (arith, split-shorter (c .args .kind) (c .loop-group .rest .now) s (c .in-Ok .ensures tt))
+    omega (arith, split-shorter (c .args .of) (c .loop-group .rest .now) s (c .in-Ok .ensures tt))
 
 pub loop-group-again : need.loop-group-again
 loop-group-again c =
