@@ -5,6 +5,7 @@ pub mod Contents
 pub mod Encodings
 pub mod Groups
 pub mod Headers
+pub mod Ids
 pub mod Layouts
 pub mod Named
 pub mod Requests

@@ -1,0 +1,2 @@
+pub mod PlaceSetLaws
+pub mod StoreLaws

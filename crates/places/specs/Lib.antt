@@ -1,0 +1,3 @@
+pub mod BodyStores
+pub mod PlaceSets
+pub mod SendCounts
