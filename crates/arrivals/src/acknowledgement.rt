@@ -17,7 +17,7 @@ use tables::element::Element;
 
 // Each entry of an acknowledgement shows the instance held of its name, if it ranks the same.
 pub fn show_all<K: Kind>(node: &mut Node, elements: &[K], line: usize, groups: &[u8])
-    ensures { node.new ≡ with_lines node.old node.old.wants (slice_set node.old.lines line (shown_all model node.old.places elements.now (acknowledged_in model groups.now) (slice_index_or node.old.lines line no_line))) }
+    ensures { node.new ≡ with_lines node.old node.old.wants (slice_set node.old.lines line (shown_all K.model node.old.places elements.now (acknowledged_in K.model groups.now) (slice_index_or node.old.lines line no_line))) }
 {
     show_each(&mut node.lines, line, &node.places, elements, groups);
 }
@@ -29,7 +29,7 @@ fn show_each<K: Kind>(
     elements: &[K],
     groups: &[u8],
 )
-    ensures { lines.new ≡ slice_set lines.old line (shown_all model places.now elements.now (acknowledged_in model groups.now) (slice_index_or lines.old line no_line)) }
+    ensures { lines.new ≡ slice_set lines.old line (shown_all K.model places.now elements.now (acknowledged_in K.model groups.now) (slice_index_or lines.old line no_line)) }
 {
     let mut walk = Walk::start(PacketType::Acknowledgement, groups);
     while let Some((entry, rest)) = walk.next(PacketType::Acknowledgement) {
@@ -46,7 +46,7 @@ fn show_entry<K: Kind>(
     entry: &Entry<'_>,
 )
     requires { 12 ≤ length entry.now.bytes.now }
-    ensures { lines.new ≡ slice_set lines.old line (shown_by model places.now elements.now (acknowledged_at model (entry_view entry.now)) (slice_index_or lines.old line no_line)) }
+    ensures { lines.new ≡ slice_set lines.old line (shown_by K.model places.now elements.now (acknowledged_at K.model (entry_view entry.now)) (slice_index_or lines.old line no_line)) }
 {
     if let Some(naming) = read_acknowledged(entry) {
         marking::show_named(lines, line, places, elements, &naming);

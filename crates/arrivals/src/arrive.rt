@@ -26,8 +26,8 @@ pub fn arrive<K: Kind>(
     instance: K,
     body: &[u8],
 ) -> Verdict
-    ensures verdict { result ≡ verdict_on model (arriving element instance body.now) (world node.old elements.old wanted.now) }
-    ensures world { world node.new elements.new wanted.now ≡ arrived model line (arriving element instance body.now) (world node.old elements.old wanted.now) }
+    ensures verdict { result ≡ verdict_on K.model (arriving element instance body.now) (world node.old elements.old wanted.now) }
+    ensures world { world node.new elements.new wanted.now ≡ arrived K.model line (arriving element instance body.now) (world node.old elements.old wanted.now) }
 {
     let verdict = judge(node, elements, &element, &instance);
     match verdict {
@@ -44,7 +44,7 @@ pub fn arrive<K: Kind>(
 }
 
 fn judge<K: Kind>(node: &Node, elements: &[K], element: &Element, instance: &K) -> Verdict
-    ensures { result ≡ verdict_of (place_of node.now.places element.now.name) (rank_at model elements.now instance.now (place_of node.now.places element.now.name)) (is_expired model instance.now) (free_place node.now.places) }
+    ensures { result ≡ verdict_of (place_of node.now.places element.now.name) (rank_at K.model elements.now instance.now (place_of node.now.places element.now.name)) (is_expired K.model instance.now) (free_place node.now.places) }
 {
     let held = node.find(&element.name);
     let rank = rank_at(elements, instance, held);
@@ -53,7 +53,7 @@ fn judge<K: Kind>(node: &Node, elements: &[K], element: &Element, instance: &K) 
 
 // Where none is held nothing hangs on the rank.
 fn rank_at<K: Kind>(elements: &[K], instance: &K, held: Option<usize>) -> Rank
-    ensures { result ≡ rank_at model elements.now instance.now held }
+    ensures { result ≡ rank_at K.model elements.now instance.now held }
 {
     match held {
         Some(place) => instance.rank(&instance_at(elements, place)),
@@ -71,7 +71,7 @@ fn enter<K: Kind>(
     instance: K,
     body: &[u8],
 )
-    ensures { world node.new elements.new wanted.now ≡ entered_as model place (arriving element instance body.now) (world node.old elements.old wanted.now) }
+    ensures { world node.new elements.new wanted.now ≡ entered_as K.model place (arriving element instance body.now) (world node.old elements.old wanted.now) }
 {
     if element.name.node.same(&node.id) && !instance.is_expired() {
         node.enter(elements, wanted, place, element, instance.expired(), &[]);

@@ -68,10 +68,10 @@ pub fn arrive_all<K: Kind>(
     line: usize,
     bundle: &Bundle<'_>,
 ) -> Arrivals
-    ensures world { world node.new elements.new wanted.now ≡ bundle_world model line bundle.now.node.bytes bundle.now.group.bytes (bundled bundle.now) (world node.old elements.old wanted.now) }
-    ensures acknowledged { take result.count result.acknowledged ≡ acknowledged_of model line bundle.now.node.bytes bundle.now.group.bytes (bundled bundle.now) (world node.old elements.old wanted.now) }
+    ensures world { world node.new elements.new wanted.now ≡ bundle_world K.model line bundle.now.node.bytes bundle.now.group.bytes (bundled bundle.now) (world node.old elements.old wanted.now) }
+    ensures acknowledged { take result.count result.acknowledged ≡ acknowledged_of K.model line bundle.now.node.bytes bundle.now.group.bytes (bundled bundle.now) (world node.old elements.old wanted.now) }
     ensures count { result.count ≤ 100 }
-    ensures left { result.left ≡ left_of model line bundle.now.node.bytes bundle.now.group.bytes (bundled bundle.now) (world node.old elements.old wanted.now) }
+    ensures left { result.left ≡ left_of K.model line bundle.now.node.bytes bundle.now.group.bytes (bundled bundle.now) (world node.old elements.old wanted.now) }
 {
     if bundle.groups.len() > MOST_BYTES {
         return Arrivals::none();
@@ -87,10 +87,10 @@ fn arrive_groups<K: Kind>(
     bundle: &Bundle<'_>,
 ) -> Arrivals
     requires { length bundle.now.groups.now ≤ 2004 }
-    ensures world { world node.new elements.new wanted.now ≡ bundle_world model line bundle.now.node.bytes bundle.now.group.bytes (elements_in bundle.now.groups.now) (world node.old elements.old wanted.now) }
-    ensures acknowledged { listed result ≡ acknowledged_of model line bundle.now.node.bytes bundle.now.group.bytes (elements_in bundle.now.groups.now) (world node.old elements.old wanted.now) }
+    ensures world { world node.new elements.new wanted.now ≡ bundle_world K.model line bundle.now.node.bytes bundle.now.group.bytes (elements_in bundle.now.groups.now) (world node.old elements.old wanted.now) }
+    ensures acknowledged { listed result ≡ acknowledged_of K.model line bundle.now.node.bytes bundle.now.group.bytes (elements_in bundle.now.groups.now) (world node.old elements.old wanted.now) }
     ensures count { result.count ≤ 100 }
-    ensures left { result.left ≡ left_of model line bundle.now.node.bytes bundle.now.group.bytes (elements_in bundle.now.groups.now) (world node.old elements.old wanted.now) }
+    ensures left { result.left ≡ left_of K.model line bundle.now.node.bytes bundle.now.group.bytes (elements_in bundle.now.groups.now) (world node.old elements.old wanted.now) }
 {
     let mut arrivals = Arrivals::none();
     let mut rest = bundle.groups;
@@ -119,10 +119,10 @@ fn arrive_group<K: Kind>(
     arrivals: &mut Arrivals,
 )
     requires { (16 ≤ length content.now) × ((arrivals.old.count < 100) × (arrivals.old.left < 100)) }
-    ensures world { world node.new elements.new wanted.now ≡ arrived model line (arrival_of model bundle.now.node.bytes bundle.now.group.bytes (element_at content.now)) (world node.old elements.old wanted.now) }
-    ensures listed { listed arrivals.new ≡ noted (verdict_on model (arrival_of model bundle.now.node.bytes bundle.now.group.bytes (element_at content.now)) (world node.old elements.old wanted.now)) (acknowledgement_of (element_at content.now)) (listed arrivals.old) }
+    ensures world { world node.new elements.new wanted.now ≡ arrived K.model line (arrival_of K.model bundle.now.node.bytes bundle.now.group.bytes (element_at content.now)) (world node.old elements.old wanted.now) }
+    ensures listed { listed arrivals.new ≡ noted (verdict_on K.model (arrival_of K.model bundle.now.node.bytes bundle.now.group.bytes (element_at content.now)) (world node.old elements.old wanted.now)) (acknowledgement_of (element_at content.now)) (listed arrivals.old) }
     ensures count { arrivals.new.count ≤ arrivals.old.count + 1 }
-    ensures left { arrivals.new.left ≡ arrivals.old.left + left_by (verdict_on model (arrival_of model bundle.now.node.bytes bundle.now.group.bytes (element_at content.now)) (world node.old elements.old wanted.now)) }
+    ensures left { arrivals.new.left ≡ arrivals.old.left + left_by (verdict_on K.model (arrival_of K.model bundle.now.node.bytes bundle.now.group.bytes (element_at content.now)) (world node.old elements.old wanted.now)) }
 {
     if let Some(arrival) = bundle::Element::read(content) {
         arrive_next(node, elements, wanted, line, bundle, &arrival, arrivals);
@@ -139,10 +139,10 @@ fn arrive_next<K: Kind>(
     arrivals: &mut Arrivals,
 )
     requires { (arrivals.old.count < 100) × (arrivals.old.left < 100) }
-    ensures world { world node.new elements.new wanted.now ≡ arrived model line (arrival_of model bundle.now.node.bytes bundle.now.group.bytes (element_view arrival.now)) (world node.old elements.old wanted.now) }
-    ensures listed { listed arrivals.new ≡ noted (verdict_on model (arrival_of model bundle.now.node.bytes bundle.now.group.bytes (element_view arrival.now)) (world node.old elements.old wanted.now)) (acknowledgement_of (element_view arrival.now)) (listed arrivals.old) }
+    ensures world { world node.new elements.new wanted.now ≡ arrived K.model line (arrival_of K.model bundle.now.node.bytes bundle.now.group.bytes (element_view arrival.now)) (world node.old elements.old wanted.now) }
+    ensures listed { listed arrivals.new ≡ noted (verdict_on K.model (arrival_of K.model bundle.now.node.bytes bundle.now.group.bytes (element_view arrival.now)) (world node.old elements.old wanted.now)) (acknowledgement_of (element_view arrival.now)) (listed arrivals.old) }
     ensures count { arrivals.new.count ≤ arrivals.old.count + 1 }
-    ensures left { arrivals.new.left ≡ arrivals.old.left + left_by (verdict_on model (arrival_of model bundle.now.node.bytes bundle.now.group.bytes (element_view arrival.now)) (world node.old elements.old wanted.now)) }
+    ensures left { arrivals.new.left ≡ arrivals.old.left + left_by (verdict_on K.model (arrival_of K.model bundle.now.node.bytes bundle.now.group.bytes (element_view arrival.now)) (world node.old elements.old wanted.now)) }
 {
     let element = Element {
         name: Name {

@@ -1,4 +1,6 @@
 // What the packets of a neighbour do to the node and its rows.
+#![tactic(auto)]
+
 pub mod acknowledgement;
 pub mod arrive;
 pub mod bundle;

@@ -36,7 +36,7 @@ pub(crate) fn show_same<K: Kind>(
     instance: &K,
     place: usize,
 )
-    ensures { lines.new ≡ slice_set lines.old line (showing model elements.now instance.now place (slice_index_or lines.old line no_line)) }
+    ensures { lines.new ≡ slice_set lines.old line (showing K.model elements.now instance.now place (slice_index_or lines.old line no_line)) }
 {
     if line < lines.len() {
         show_if_same(&mut lines[line], elements, instance, place);
@@ -44,7 +44,7 @@ pub(crate) fn show_same<K: Kind>(
 }
 
 fn show_if_same<K: Kind>(line: &mut Line, elements: &[K], instance: &K, place: usize)
-    ensures { line.new ≡ showing model elements.now instance.now place line.old }
+    ensures { line.new ≡ showing K.model elements.now instance.now place line.old }
 {
     if let Rank::Same = instance.rank(&instance_at(elements, place)) {
         line.show(place);
@@ -59,7 +59,7 @@ pub(crate) fn show_named<K: Kind>(
     elements: &[K],
     naming: &Naming<K>,
 )
-    ensures { lines.new ≡ slice_set lines.old line (shown_by model places.now elements.now (naming_view naming.now) (slice_index_or lines.old line no_line)) }
+    ensures { lines.new ≡ slice_set lines.old line (shown_by K.model places.now elements.now (naming_view naming.now) (slice_index_or lines.old line no_line)) }
 {
     if let Some(place) = find_in(places, &naming.name) {
         show_same(lines, line, elements, &naming.instance, place);

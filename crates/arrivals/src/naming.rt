@@ -19,7 +19,7 @@ pub struct Naming<K> {
 }
 
 pub(crate) fn read_acknowledged<K: Kind>(entry: &Entry<'_>) -> Option<Naming<K>>
-    ensures { viewed_naming result ≡ whole Acknowledgement (entry_view entry.now) (acknowledged_at model (entry_view entry.now)) }
+    ensures { viewed_naming result ≡ whole Acknowledgement (entry_view entry.now) (acknowledged_at K.model (entry_view entry.now)) }
 {
     let (acknowledged, _) = Acknowledged::split(entry.bytes)?;
     let name = Name {
@@ -33,7 +33,7 @@ pub(crate) fn read_acknowledged<K: Kind>(entry: &Entry<'_>) -> Option<Naming<K>>
 }
 
 pub(crate) fn read_described<K: Kind>(entry: &Entry<'_>) -> Option<Naming<K>>
-    ensures { viewed_naming result ≡ whole Summary (entry_view entry.now) (described_at model (entry_view entry.now)) }
+    ensures { viewed_naming result ≡ whole Summary (entry_view entry.now) (described_at K.model (entry_view entry.now)) }
 {
     let (description, _) = Description::split(entry.bytes)?;
     let name = Name {

@@ -6,7 +6,7 @@ use kinds::kind::Kind;
 
 // What lies past the end of the row is never looked at.
 pub(crate) fn instance_at<K: Kind>(row: &[K], place: usize) -> K
-    ensures { result ≡ instance_at model row.now place }
+    ensures { result ≡ instance_at K.model row.now place }
 {
     if place < row.len() {
         row[place]

@@ -27,7 +27,7 @@ pub struct Descriptions<K> {
 impl<K: Kind> Descriptions<K> {
     // Groups that are longer than those of a packet are passed over.
     pub fn read(groups: &[u8]) -> Descriptions<K>
-        ensures { listed result ≡ descriptions_of model groups.now }
+        ensures { listed result ≡ descriptions_of K.model groups.now }
     {
         if groups.len() > MOST_BYTES {
             return Descriptions::none();
@@ -53,7 +53,7 @@ impl<K: Kind> Descriptions<K> {
 
     fn collect(groups: &[u8]) -> Descriptions<K>
         requires { length groups.now ≤ 2032 }
-        ensures { listed result ≡ described_in model groups.now }
+        ensures { listed result ≡ described_in K.model groups.now }
     {
         let mut descriptions = Descriptions::none();
         let mut walk = Walk::start(PacketType::Summary, groups);
@@ -66,7 +66,7 @@ impl<K: Kind> Descriptions<K> {
 
     fn add(&mut self, entry: &Entry<'_>)
         requires { (16 ≤ length entry.now.bytes.now) × ((self.old.count < 127) × (length self.old.all ≡ 127)) }
-        ensures listed { listed self.new ≡ listed self.old ++ described_at model (entry_view entry.now) ∷ [] }
+        ensures listed { listed self.new ≡ listed self.old ++ described_at K.model (entry_view entry.now) ∷ [] }
         ensures count { self.new.count ≡ self.old.count + 1 }
         ensures length { length self.new.all ≡ 127 }
     {
@@ -78,13 +78,13 @@ impl<K: Kind> Descriptions<K> {
 
     // They need more want places than are free.
     pub fn lacks_places(&self, node: &Node, elements: &[K], line: usize) -> bool
-        ensures { (ws : List K) → result ≡ lacks_places model line (world node.now elements.now ws) (listed self.now) }
+        ensures { (ws : List K) → result ≡ lacks_places K.model line (world node.now elements.now ws) (listed self.now) }
     {
         want::is_short(node, elements, line, first(&self.all, self.count))
     }
 
     pub fn describe_all(&self, node: &mut Node, elements: &[K], wanted: &mut [K], line: usize)
-        ensures { world node.new elements.now wanted.new ≡ described_all model line (listed self.now) (world node.old elements.now wanted.old) }
+        ensures { world node.new elements.now wanted.new ≡ described_all K.model line (listed self.now) (world node.old elements.now wanted.old) }
     {
         want::describe_each(node, elements, wanted, line, first(&self.all, self.count));
     }

@@ -28,7 +28,7 @@ fn is_higher(rank: Rank) -> bool
 
 // The held instance ranks lower, or none is held and this one is unexpired.
 fn is_wanted<K: Kind>(node: &Node, elements: &[K], naming: &Naming<K>) -> bool
-    ensures { result ≡ wanted_at model elements.now naming.now.instance (place_of node.now.places naming.now.name) }
+    ensures { result ≡ wanted_at K.model elements.now naming.now.instance (place_of node.now.places naming.now.name) }
 {
     match node.find(&naming.name) {
         Some(place) => is_higher(naming.instance.rank(&instance_at(elements, place))),
@@ -59,7 +59,7 @@ fn find_named(wants: &[Option<Want>], line: usize, name: &Name) -> Option<usize>
 
 // Wanted, of a name that the line has no want of.
 fn needs_place<K: Kind>(node: &Node, elements: &[K], line: usize, naming: &Naming<K>) -> bool
-    ensures { result ≡ needs_place model line (world node.now elements.now []) (naming_view naming.now) }
+    ensures { result ≡ needs_place K.model line (world node.now elements.now []) (naming_view naming.now) }
 {
     is_wanted(node, elements, naming) && find_named(&node.wants, line, &naming.name).is_none()
 }
@@ -71,7 +71,7 @@ fn needs_for<K: Kind>(
     name: &Name,
     naming: &Naming<K>,
 ) -> bool
-    ensures { result ≡ needs_for model line (world node.now elements.now []) name.now (naming_view naming.now) }
+    ensures { result ≡ needs_for K.model line (world node.now elements.now []) name.now (naming_view naming.now) }
 {
     needs_place(node, elements, line, naming) && naming.name.same(name)
 }
@@ -83,7 +83,7 @@ fn is_needed<K: Kind>(
     name: &Name,
     namings: &[Naming<K>],
 ) -> bool
-    ensures { result ≡ some_where (needs_for model line (world node.now elements.now []) name.now) (map naming_view namings.now) }
+    ensures { result ≡ some_where (needs_for K.model line (world node.now elements.now []) name.now) (map naming_view namings.now) }
 {
     for naming in namings.iter() {
         if needs_for(node, elements, line, name, naming) {
@@ -101,7 +101,7 @@ fn is_last_needed<K: Kind>(
     naming: &Naming<K>,
     later: &[Naming<K>],
 ) -> bool
-    ensures { result ≡ (needs_place model line (world node.now elements.now []) (naming_view naming.now) && not (some_where (needs_for model line (world node.now elements.now []) naming.now.name) (map naming_view later.now))) }
+    ensures { result ≡ (needs_place K.model line (world node.now elements.now []) (naming_view naming.now) && not (some_where (needs_for K.model line (world node.now elements.now []) naming.now.name) (map naming_view later.now))) }
 {
     needs_place(node, elements, line, naming)
         && !is_needed(node, elements, line, &naming.name, later)
@@ -109,7 +109,7 @@ fn is_last_needed<K: Kind>(
 
 // The want places that descriptions need: as many as there are names of the needed ones.
 fn count_needed<K: Kind>(node: &Node, elements: &[K], line: usize, namings: &[Naming<K>]) -> usize
-    ensures { (ws : List K) → result ≡ needed model line (world node.now elements.now ws) (map naming_view namings.now) }
+    ensures { (ws : List K) → result ≡ needed K.model line (world node.now elements.now ws) (map naming_view namings.now) }
 {
     let mut count = 0;
     for (i, naming) in namings.iter().enumerate() {
@@ -145,7 +145,7 @@ pub(crate) fn is_short<K: Kind>(
     line: usize,
     namings: &[Naming<K>],
 ) -> bool
-    ensures { (ws : List K) → result ≡ lacks_places model line (world node.now elements.now ws) (map naming_view namings.now) }
+    ensures { (ws : List K) → result ≡ lacks_places K.model line (world node.now elements.now ws) (map naming_view namings.now) }
 {
     count_free(&node.wants) < count_needed(node, elements, line, namings)
 }
@@ -158,7 +158,7 @@ pub fn describe<K: Kind>(
     line: usize,
     naming: &Naming<K>,
 )
-    ensures { world node.new elements.now wanted.new ≡ described model line (naming_view naming.now) (world node.old elements.now wanted.old) }
+    ensures { world node.new elements.now wanted.new ≡ described K.model line (naming_view naming.now) (world node.old elements.now wanted.old) }
 {
     marking::show_named(&mut node.lines, line, &node.places, elements, naming);
     want(node, elements, wanted, line, naming);
@@ -166,7 +166,7 @@ pub fn describe<K: Kind>(
 
 // A want that the line has is replaced by a higher instance only.
 fn want<K: Kind>(node: &mut Node, elements: &[K], wanted: &mut [K], line: usize, naming: &Naming<K>)
-    ensures { world node.new elements.now wanted.new ≡ wanted_by model line (naming_view naming.now) (world node.old elements.now wanted.old) }
+    ensures { world node.new elements.now wanted.new ≡ wanted_by K.model line (naming_view naming.now) (world node.old elements.now wanted.old) }
 {
     if !is_wanted(node, elements, naming) {
         return;
@@ -213,7 +213,7 @@ pub(crate) fn describe_each<K: Kind>(
     line: usize,
     namings: &[Naming<K>],
 )
-    ensures { world node.new elements.now wanted.new ≡ described_all model line (map naming_view namings.now) (world node.old elements.now wanted.old) }
+    ensures { world node.new elements.now wanted.new ≡ described_all K.model line (map naming_view namings.now) (world node.old elements.now wanted.old) }
 {
     for naming in namings.iter() {
         describe(node, elements, wanted, line, naming);

@@ -34,13 +34,13 @@ pub fn originate<K: Kind>(
     wants: &mut [K],
     origination: Origination,
 ) -> Result<(), Refusal>
-    ensures answer { result ≡ originate_answer model (world node.old elements.old wants.old) origination.entry }
-    ensures node { node.new ≡ (originate_world model (world node.old elements.old wants.old) origination.entry).node }
-    ensures elements { elements.new ≡ (originate_world model (world node.old elements.old wants.old) origination.entry).elements }
+    ensures answer { result ≡ originate_answer K.model (world node.old elements.old wants.old) origination.entry }
+    ensures node { node.new ≡ (originate_world K.model (world node.old elements.old wants.old) origination.entry).node }
+    ensures elements { elements.new ≡ (originate_world K.model (world node.old elements.old wants.old) origination.entry).elements }
     ensures wants { wants.new ≡ wants.old }
     ensures refused { Untouched result (world node.old elements.old wants.old) (world node.new elements.new wants.new) }
     ensures one_place { KeepsOnePlace node.old node.new }
-    ensures enters { EntersOnly model (own_name node.old origination.entry.number) (world node.old elements.old wants.old) (world node.new elements.new wants.new) }
+    ensures enters { EntersOnly K.model (own_name node.old origination.entry.number) (world node.old elements.old wants.old) (world node.new elements.new wants.new) }
 {
     enter_own(node, elements, wants, origination)
 }
@@ -51,9 +51,9 @@ fn enter_own<K: Kind>(
     wants: &mut [K],
     origination: Origination,
 ) -> Result<(), Refusal>
-    ensures answer { result ≡ originate_answer model (world node.old elements.old wants.old) origination.entry }
-    ensures node { node.new ≡ (originate_world model (world node.old elements.old wants.old) origination.entry).node }
-    ensures elements { elements.new ≡ (originate_world model (world node.old elements.old wants.old) origination.entry).elements }
+    ensures answer { result ≡ originate_answer K.model (world node.old elements.old wants.old) origination.entry }
+    ensures node { node.new ≡ (originate_world K.model (world node.old elements.old wants.old) origination.entry).node }
+    ensures elements { elements.new ≡ (originate_world K.model (world node.old elements.old wants.old) origination.entry).elements }
     ensures wants { wants.new ≡ wants.old }
 {
     check_rows(elements, wants)?;
@@ -97,7 +97,7 @@ fn succeed<K: Kind>(
     time: u16,
 ) -> Result<Succession<K>, Refusal>
     requires { length elements.now ≡ 64 }
-    ensures { result ≡ succession_of model node.now elements.now name.now check time }
+    ensures { result ≡ succession_of K.model node.now elements.now name.now check time }
 {
     match node.find(name) {
         Some(place) => match elements[place].next(check, time) {

@@ -11,21 +11,21 @@ use kinds::kind::Kind;
 
 pub fn second<K: Kind>(node: &mut Node, elements: &mut [K], wants: &mut [K]) -> Result<(), Refusal>
     ensures answer { result ≡ second_answer (world node.old elements.old wants.old) }
-    ensures node { node.new ≡ (second_left model (world node.old elements.old wants.old)).node }
-    ensures elements { elements.new ≡ (second_left model (world node.old elements.old wants.old)).elements }
+    ensures node { node.new ≡ (second_left K.model (world node.old elements.old wants.old)).node }
+    ensures elements { elements.new ≡ (second_left K.model (world node.old elements.old wants.old)).elements }
     ensures wants { wants.new ≡ wants.old }
     ensures refused { Untouched result (world node.old elements.old wants.old) (world node.new elements.new wants.new) }
     ensures one_place { KeepsOnePlace node.old node.new }
-    ensures drops { Drops model (world node.old elements.old wants.old) (world node.new elements.new wants.new) }
-    ensures ages { Ages model (world node.old elements.old wants.old) (world node.new elements.new wants.new) }
+    ensures drops { Drops K.model (world node.old elements.old wants.old) (world node.new elements.new wants.new) }
+    ensures ages { Ages K.model (world node.old elements.old wants.old) (world node.new elements.new wants.new) }
 {
     pass_second(node, elements, wants)
 }
 
 fn pass_second<K: Kind>(node: &mut Node, elements: &mut [K], wants: &mut [K]) -> Result<(), Refusal>
     ensures answer { result ≡ second_answer (world node.old elements.old wants.old) }
-    ensures node { node.new ≡ (second_left model (world node.old elements.old wants.old)).node }
-    ensures elements { elements.new ≡ (second_left model (world node.old elements.old wants.old)).elements }
+    ensures node { node.new ≡ (second_left K.model (world node.old elements.old wants.old)).node }
+    ensures elements { elements.new ≡ (second_left K.model (world node.old elements.old wants.old)).elements }
     ensures wants { wants.new ≡ wants.old }
 {
     check_rows(elements, wants)?;

@@ -23,8 +23,8 @@ pub fn write_bundle<K: Kind>(
     group: PeerGroupId,
     chosen: &[usize],
 ) -> usize
-    ensures written { result ≡ composed_length (short bodies.now chosen.now buffer.old) (bundle_content model places.now bodies.now elements.now node group chosen.now) }
-    ensures buffer { buffer.new ≡ composed (short bodies.now chosen.now buffer.old) (bundle_content model places.now bodies.now elements.now node group chosen.now) buffer.old }
+    ensures written { result ≡ composed_length (short bodies.now chosen.now buffer.old) (bundle_content K.model places.now bodies.now elements.now node group chosen.now) }
+    ensures buffer { buffer.new ≡ composed (short bodies.now chosen.now buffer.old) (bundle_content K.model places.now bodies.now elements.now node group chosen.now) buffer.old }
 {
     if !is_short(bodies, chosen) || buffer.len() < LONGEST {
         return 0;
@@ -57,8 +57,8 @@ fn write<K: Kind>(
 ) -> usize
     requires short { 44 + needed (element_long bodies.now) chosen.now ≤ 2048 }
     requires room { 2048 ≤ length buffer.old }
-    ensures length { result ≡ length (encode (bundle_content model places.now bodies.now elements.now node group chosen.now)) }
-    ensures buffer { buffer.new ≡ pasted 0 (encode (bundle_content model places.now bodies.now elements.now node group chosen.now)) buffer.old }
+    ensures length { result ≡ length (encode (bundle_content K.model places.now bodies.now elements.now node group chosen.now)) }
+    ensures buffer { buffer.new ≡ pasted 0 (encode (bundle_content K.model places.now bodies.now elements.now node group chosen.now)) buffer.old }
 {
     let Ok(draft) = Open::begin(
         buffer,
@@ -84,8 +84,8 @@ fn write_elements<K: Kind>(
     chosen: &[usize],
 ) -> Open
     requires { draft.len + needed (element_long bodies.now) chosen.now ≤ min (length buffer.old) 2048 }
-    ensures state { result.len ≡ draft.len + length (groups_bytes (element_group model elements.now bodies.now) places.now chosen.now) }
-    ensures bytes { buffer.new ≡ pasted draft.len (groups_bytes (element_group model elements.now bodies.now) places.now chosen.now) buffer.old }
+    ensures state { result.len ≡ draft.len + length (groups_bytes (element_group K.model elements.now bodies.now) places.now chosen.now) }
+    ensures bytes { buffer.new ≡ pasted draft.len (groups_bytes (element_group K.model elements.now bodies.now) places.now chosen.now) buffer.old }
 {
     let mut draft = draft;
     for place in chosen.iter() {
@@ -103,8 +103,8 @@ fn write_element<K: Kind>(
     place: usize,
 ) -> Open
     requires { draft.len + element_long bodies.now place ≤ min (length buffer.old) 2048 }
-    ensures state { result.len ≡ draft.len + length (one_bytes (element_group model elements.now bodies.now) place (slice_index_or places.now place None)) }
-    ensures bytes { buffer.new ≡ pasted draft.len (one_bytes (element_group model elements.now bodies.now) place (slice_index_or places.now place None)) buffer.old }
+    ensures state { result.len ≡ draft.len + length (one_bytes (element_group K.model elements.now bodies.now) place (slice_index_or places.now place None)) }
+    ensures bytes { buffer.new ≡ pasted draft.len (one_bytes (element_group K.model elements.now bodies.now) place (slice_index_or places.now place None)) buffer.old }
     ensures short { result.len ≤ draft.len + element_long bodies.now place }
 {
     let Some(element) = held_at(places, place) else {

@@ -28,7 +28,7 @@ pub(crate) fn held_at<T: Copy>(table: &[Option<T>], place: usize) -> Option<T>
 
 // What lies past the end is never looked at.
 pub(crate) fn instance_at<K: Kind>(row: &[K], place: usize) -> K
-    ensures { result ≡ instance_at model row.now place }
+    ensures { result ≡ instance_at K.model row.now place }
 {
     if place < row.len() {
         row[place]

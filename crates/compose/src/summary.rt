@@ -21,8 +21,8 @@ pub fn write_summary<K: Kind>(
     elements: &[K],
     told: &[usize],
 ) -> usize
-    ensures written { result ≡ composed_length (few told.now buffer.old) (summary_content model flags ds_number places.now elements.now told.now) }
-    ensures buffer { buffer.new ≡ composed (few told.now buffer.old) (summary_content model flags ds_number places.now elements.now told.now) buffer.old }
+    ensures written { result ≡ composed_length (few told.now buffer.old) (summary_content K.model flags ds_number places.now elements.now told.now) }
+    ensures buffer { buffer.new ≡ composed (few told.now buffer.old) (summary_content K.model flags ds_number places.now elements.now told.now) buffer.old }
 {
     if told.len() > MOST || buffer.len() < LONGEST {
         return 0;
@@ -40,8 +40,8 @@ fn write<K: Kind>(
 ) -> usize
     requires few { length told.now ≤ 32 }
     requires room { 2048 ≤ length buffer.old }
-    ensures length { result ≡ length (encode (summary_content model flags ds_number places.now elements.now told.now)) }
-    ensures buffer { buffer.new ≡ pasted 0 (encode (summary_content model flags ds_number places.now elements.now told.now)) buffer.old }
+    ensures length { result ≡ length (encode (summary_content K.model flags ds_number places.now elements.now told.now)) }
+    ensures buffer { buffer.new ≡ pasted 0 (encode (summary_content K.model flags ds_number places.now elements.now told.now)) buffer.old }
 {
     let [f0, f1] = flags.to_be_bytes();
     let [d0, d1, d2, d3] = ds_number.to_be_bytes();
@@ -62,8 +62,8 @@ fn write_elements<K: Kind>(
     told: &[usize],
 ) -> Open
     requires { draft.len + needed (λ _. 60) told.now ≤ min (length buffer.old) 2048 }
-    ensures state { result.len ≡ draft.len + length (groups_bytes (description_group model elements.now) places.now told.now) }
-    ensures bytes { buffer.new ≡ pasted draft.len (groups_bytes (description_group model elements.now) places.now told.now) buffer.old }
+    ensures state { result.len ≡ draft.len + length (groups_bytes (description_group K.model elements.now) places.now told.now) }
+    ensures bytes { buffer.new ≡ pasted draft.len (groups_bytes (description_group K.model elements.now) places.now told.now) buffer.old }
 {
     let mut draft = draft;
     for place in told.iter() {
@@ -80,8 +80,8 @@ fn write_element<K: Kind>(
     place: usize,
 ) -> Open
     requires { draft.len + 60 ≤ min (length buffer.old) 2048 }
-    ensures state { result.len ≡ draft.len + length (one_bytes (description_group model elements.now) place (slice_index_or places.now place None)) }
-    ensures bytes { buffer.new ≡ pasted draft.len (one_bytes (description_group model elements.now) place (slice_index_or places.now place None)) buffer.old }
+    ensures state { result.len ≡ draft.len + length (one_bytes (description_group K.model elements.now) place (slice_index_or places.now place None)) }
+    ensures bytes { buffer.new ≡ pasted draft.len (one_bytes (description_group K.model elements.now) place (slice_index_or places.now place None)) buffer.old }
     ensures short { result.len ≤ draft.len + 60 }
 {
     let Some(element) = held_at(places, place) else {

@@ -22,9 +22,9 @@ impl Node {
         instance: K,
         body: &[u8],
     )
-        ensures node { self.new ≡ entered_node model wanted.now place element instance body.now self.old }
+        ensures node { self.new ≡ entered_node K.model wanted.now place element instance body.now self.old }
         ensures elements { elements.new ≡ slice_set elements.old place instance }
-        ensures closed { Closed model wanted.now element.name instance self.new.wants }
+        ensures closed { Closed K.model wanted.now element.name instance self.new.wants }
     {
         marks::put(&mut self.places, place, Some(element));
         marks::put(elements, place, instance);

@@ -12,7 +12,7 @@ use tables::wants;
 impl Node {
     // While nobody synchronizes, each expired element that is owed to nobody is dropped.
     pub fn drop_expired<K: Kind>(&mut self, elements: &[K])
-        ensures { self.new ≡ dropped_all model elements.now self.old }
+        ensures { self.new ≡ dropped_all K.model elements.now self.old }
     {
         if !marks::is_any_synchronizing(&self.lines) {
             self.drop_each(elements);
@@ -20,7 +20,7 @@ impl Node {
     }
 
     fn drop_each<K: Kind>(&mut self, elements: &[K])
-        ensures { self.new ≡ in_turn (dropped_at model elements.now) 64 self.old }
+        ensures { self.new ≡ in_turn (dropped_at K.model elements.now) 64 self.old }
     {
         for place in 0..64 {
             self.drop_at(elements, place);
@@ -29,7 +29,7 @@ impl Node {
 
     fn drop_at<K: Kind>(&mut self, elements: &[K], place: usize)
         requires { place < 64 }
-        ensures { self.new ≡ dropped_at model elements.now place self.old }
+        ensures { self.new ≡ dropped_at K.model elements.now place self.old }
     {
         if place >= elements.len() || self.places[place].is_none() {
             return;
@@ -41,7 +41,7 @@ impl Node {
 
     // Every unexpired element is a second older.
     pub fn age<K: Kind>(&mut self, elements: &mut [K], wanted: &[K])
-        ensures { world self.new elements.new wanted.now ≡ aged_all model (world self.old elements.old wanted.now) }
+        ensures { world self.new elements.new wanted.now ≡ aged_all K.model (world self.old elements.old wanted.now) }
     {
         for place in 0..64 {
             self.age_at(elements, wanted, place);
@@ -51,7 +51,7 @@ impl Node {
     // What runs out enters in its expired form with an empty body.
     fn age_at<K: Kind>(&mut self, elements: &mut [K], wanted: &[K], place: usize)
         requires { place < 64 }
-        ensures { world self.new elements.new wanted.now ≡ aged_at model place (world self.old elements.old wanted.now) }
+        ensures { world self.new elements.new wanted.now ≡ aged_at K.model place (world self.old elements.old wanted.now) }
     {
         if place >= elements.len() {
             return;

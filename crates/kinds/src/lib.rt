@@ -1,4 +1,6 @@
 // What the eight bytes that tell the instances of an element apart mean.
+#![tactic(auto)]
+
 pub mod ageing;
 pub mod cache;
 pub mod kind;

@@ -7,8 +7,8 @@ use crate::rank::Rank;
 
 // The index of the newest of some instances of one element, the first of those that rank the same.
 pub fn newest<K: Kind>(instances: &[K]) -> Option<usize>
-    ensures value { result ≡ newest_of model instances.now }
-    ensures newest { MatchOption result (length instances.now ≡ 0) (Newest model instances.now) }
+    ensures value { result ≡ newest_of K.model instances.now }
+    ensures newest { MatchOption result (length instances.now ≡ 0) (Newest K.model instances.now) }
 {
     if instances.is_empty() {
         return None;
@@ -23,7 +23,7 @@ pub fn newest<K: Kind>(instances: &[K]) -> Option<usize>
 // The index of the newer of two, the first where they rank the same.
 fn newer<K: Kind>(instances: &[K], best: usize, i: usize) -> usize
     requires { (best < length instances.now) × (i < length instances.now) }
-    ensures { result ≡ newer_of model instances.now best i }
+    ensures { result ≡ newer_of K.model instances.now best i }
 {
     match instances[i].rank(&instances[best]) {
         Rank::Higher => i,
@@ -33,8 +33,8 @@ fn newer<K: Kind>(instances: &[K], best: usize, i: usize) -> usize
 
 // The instance under which an element goes on: the next after the one held, or the first where none is held.
 pub fn successor<K: Kind>(held: Option<K>, check: u16, time: u16) -> Option<K>
-    ensures value { result ≡ successor_of model held check time }
-    ensures succeeds { Succeeds model held time result }
+    ensures value { result ≡ successor_of K.model held check time }
+    ensures succeeds { Succeeds K.model held time result }
 {
     match held {
         Some(instance) => instance.next(check, time),

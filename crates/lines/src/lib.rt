@@ -1,4 +1,6 @@
 // One line of a node, its neighbour and its marks.
+#![tactic(auto)]
+
 pub mod line;
 pub mod machine;
 pub mod marks;

@@ -1,4 +1,6 @@
 // The four packets: what bytes mean, read and written.
+#![tactic(auto)]
+
 pub mod acknowledgement;
 pub mod bundle;
 pub mod group;

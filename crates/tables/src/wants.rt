@@ -19,7 +19,7 @@ fn is_at_or_below(rank: Rank) -> bool
 
 // The want closes where it is one of the name, at or below the instance that came.
 fn close_one<K: Kind>(want: &mut Option<Want>, wanted: &K, name: &Name, instance: &K)
-    ensures { want.new ≡ closed_want model name.now instance.now wanted.now want.old }
+    ensures { want.new ≡ closed_want K.model name.now instance.now wanted.now want.old }
 {
     if let Some(open) = want {
         if open.name.same(name) && is_at_or_below(wanted.rank(instance)) {
@@ -30,7 +30,7 @@ fn close_one<K: Kind>(want: &mut Option<Want>, wanted: &K, name: &Name, instance
 
 // A want place that the row does not reach has no instance, and stays.
 fn close_at<K: Kind>(want: &mut Option<Want>, row: &[K], place: usize, name: &Name, instance: &K)
-    ensures { want.new ≡ closed_at model row.now name.now instance.now place want.old }
+    ensures { want.new ≡ closed_at K.model row.now name.now instance.now place want.old }
 {
     if place < row.len() {
         close_one(want, &row[place], name, instance);
@@ -39,14 +39,14 @@ fn close_at<K: Kind>(want: &mut Option<Want>, row: &[K], place: usize, name: &Na
 
 // Of whatever line.
 pub fn close_wants<K: Kind>(wants: &mut [Option<Want>], row: &[K], name: &Name, instance: &K)
-    ensures wants { wants.new ≡ closed_wants model row.now name.now instance.now wants.old }
-    ensures closed { Closed model row.now name.now instance.now wants.new }
+    ensures wants { wants.new ≡ closed_wants K.model row.now name.now instance.now wants.old }
+    ensures closed { Closed K.model row.now name.now instance.now wants.new }
 {
     close_each(wants, row, name, instance);
 }
 
 fn close_each<K: Kind>(wants: &mut [Option<Want>], row: &[K], name: &Name, instance: &K)
-    ensures { wants.new ≡ closed_wants model row.now name.now instance.now wants.old }
+    ensures { wants.new ≡ closed_wants K.model row.now name.now instance.now wants.old }
 {
     for i in 0..wants.len() {
         close_at(&mut wants[i], row, i, name, instance);

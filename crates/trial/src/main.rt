@@ -1,4 +1,6 @@
 // `trial`: what a release tester runs.
+#![tactic(auto)]
+
 mod capture;
 mod csv;
 mod edition;

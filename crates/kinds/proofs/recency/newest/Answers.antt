@@ -6,7 +6,7 @@ use Rattle.kinds.proofs.recency.newest.Goals as goal
 
 pub loop-i-init : goal.loop-i-init
 loop-i-init g c =
-    let n = eqb-false _ _ (sym c.if-is-empty.ensures) in
+    let n = eqb-false _ _ (sym c.if-is_empty.ensures) in
     (omega arith, sym (newest_none g.K.Kind.model g.met.K.Kind.laws c.args.instances.now))
 
 pub loop-i-preserved : goal.loop-i-preserved
@@ -18,7 +18,7 @@ pub returns : goal.returns
 returns g c =
     let ops = g.K.Kind.model in
     let xs = c.args.instances.now in
-    let n = eqb-false _ _ (sym c.if-is-empty.ensures) in
+    let n = eqb-false _ _ (sym c.if-is_empty.ensures) in
     let e : c.loop-i.i - 1 ≡ length xs - 1 = omega arith in
     let f = searched ops g.met.K.Kind.laws xs c.loop-i.best (omega arith) (c.loop-i.invariant.1 ∙ ap (newest_to ops xs) e) in
     record { value = f.0; newest = f.1 }
