@@ -25,7 +25,7 @@ pub returns-in-Err : goal.returns-in-Err
 returns-in-Err c =
     let inv = c.loop-rest.invariant in
     let n = eqb-false _ _ (sym c.loop-rest-test.ensures) in
-    ap Some c.misfit-at.ensures
+    ap Some c.misfit_at.ensures
     ∙ fault_here c.args.of inv.0 c.loop-rest.rest.now c.in-Err.fault (omega arith) inv.1 c.in-Err.ensures ∙ inv.2
 
 pub returns : goal.returns
