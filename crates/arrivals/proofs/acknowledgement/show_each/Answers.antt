@@ -22,7 +22,7 @@ loop-entry-preserved g c =
     let ops = g.K.Kind.model in
     let ps = c.args.places.now in
     let xs = c.args.elements.now in
-    on_more no_line (shown_all ops ps xs) (shown_by ops ps xs) (λ l. refl) (λ m ms l. refl) c.args.line _ _ _ _ _ (ap (map (acknowledged_at ops)) c.in-Some.ensures.0) c.show-entry.ensures
+    on_more no_line (shown_all ops ps xs) (shown_by ops ps xs) (λ l. refl) (λ m ms l. refl) c.args.line _ _ _ _ _ (ap (map (acknowledged_at ops)) c.in-Some.ensures.0) c.show_entry.ensures
     ∙ c.loop-entry.invariant
 
 pub returns : goal.returns
@@ -30,5 +30,5 @@ returns g c =
     let ops = g.K.Kind.model in
     let ps = c.args.places.now in
     let xs = c.args.elements.now in
-    on_all no_line (shown_all ops ps xs) (shown_by ops ps xs) (λ l. refl) (λ m ms l. refl) c.args.line _ _ (ap (map (acknowledged_at ops)) c.in-default.ensures)
+    on_all no_line (shown_all ops ps xs) (shown_by ops ps xs) (λ l. refl) (λ m ms l. refl) c.args.line _ _ (ap (map (acknowledged_at ops)) c.in_default.ensures)
     ∙ c.loop-entry.invariant

@@ -12,7 +12,7 @@ returns-in-Some g c =
     let b = c.args.bundle.now in
     let w = world c.args.node.now c.args.elements.now c.args.wanted.now in
     let e : element_view c.in-Some.arrival ≡ element_at c.args.content.now = (past_none _ _ _ c.in-Some.ensures).1 in
-    let step = c.arrive-next.ensures in
+    let step = c.arrive_next.ensures in
     record {
       world = step.world ∙ ap (λ x. arrived ops c.args.line (arrival_of ops b.node.bytes b.group.bytes x) w) e;
       listed = step.listed ∙ ap (λ x. noted (verdict_on ops (arrival_of ops b.node.bytes b.group.bytes x) w) (acknowledgement_of x) (listed c.args.arrivals.now)) e;

@@ -11,8 +11,8 @@ loop-group-init g c =
     let e = c.none-arrivals.ensures in
     worked_none _ _ _ _ _ _ _ _ _ (ap (λ n. take n none.acknowledged) e.0) e.0 e.1
 
-pub arrive-group-requires : goal.arrive-group-requires
-arrive-group-requires g c =
+pub arrive_group-requires : goal.arrive_group-requires
+arrive_group-requires g c =
     let s : Split = record { content = c.in-Ok.group.content.now; rest = c.in-Ok.group.rest.now } in
     let r = worked_room _ _ _ _ _ _ _ _ _ _ _ c.loop-group.invariant c.requires s c.in-Ok.ensures in
     (r.0, (r.1, r.2))
@@ -25,10 +25,10 @@ loop-group-smaller g c =
 pub loop-group-preserved : goal.loop-group-preserved
 loop-group-preserved g c =
     let s : Split = record { content = c.in-Ok.group.content.now; rest = c.in-Ok.group.rest.now } in
-    let step = c.arrive-group.ensures in
+    let step = c.arrive_group.ensures in
     worked_more _ _ _ _ _ _ _ _ _ _ _ c.loop-group.invariant s _ _ _ _ c.in-Ok.ensures step.world step.listed step.count step.left
 
 pub returns : goal.returns
 returns g c =
-    let all = worked_all _ _ _ _ _ _ _ _ _ _ _ c.loop-group.invariant c.in-default.field-0 c.in-default.ensures in
+    let all = worked_all _ _ _ _ _ _ _ _ _ _ _ c.loop-group.invariant c.in_default.field-0 c.in_default.ensures in
     record { world = all.0; acknowledged = all.1; count = omega (arith, c.loop-group.invariant.acks_fit, c.requires); left = all.2 }

@@ -4,8 +4,8 @@ use Rattle.lines.specs.Lines.{no_line}
 use Rattle.arrivals.proofs.LineLaws.{set_self}
 use Rattle.arrivals.proofs.marking.show_named.Goals as goal
 
-pub returns-in-default : goal.returns-in-default
-returns-in-default g c =
+pub returns-in_default : goal.returns-in_default
+returns-in_default g c =
     let ls = c.args.lines.now in
     let i = c.args.line in
-    sym (set_self no_line ls i) ∙ ap (λ p. set ls i (showing_at g.K.Kind.model c.args.elements.now c.args.naming.now.instance p (get_or ls i no_line))) c.in-default.ensures.place
+    sym (set_self no_line ls i) ∙ ap (λ p. set ls i (showing_at g.K.Kind.model c.args.elements.now c.args.naming.now.instance p (get_or ls i no_line))) c.in_default.ensures.place

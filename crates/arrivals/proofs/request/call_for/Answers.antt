@@ -5,8 +5,8 @@ use Rattle.lines.specs.Lines.{no_line}
 use Rattle.arrivals.proofs.LineLaws.{same_lines}
 use Rattle.arrivals.proofs.request.call_for.Goals as goal
 
-pub returns-in-default : goal.returns-in-default
-returns-in-default c =
+pub returns-in_default : goal.returns-in_default
+returns-in_default c =
     let n = c.args.node.now in
     let i = c.args.line in
-    same_lines n i ∙ ap (λ p. with_lines n n.wants (set n.lines i (called_at p (get_or n.lines i no_line)))) c.in-default.ensures.place
+    same_lines n i ∙ ap (λ p. with_lines n n.wants (set n.lines i (called_at p (get_or n.lines i no_line)))) c.in_default.ensures.place

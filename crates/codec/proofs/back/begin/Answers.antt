@@ -6,5 +6,5 @@ pub returns-in-Acknowledgement : goal.returns-in-Acknowledgement
 returns-in-Acknowledgement c =
     let content = c.args.packet.now.content in
     let begun = c.begin-in-Acknowledgement.ensures in
-    let b = bare_begun (raw content) _ _ _ _ _ _ (bare content c.in-Acknowledgement.is) c.packet-type-of.ensures begun.state begun.bytes in
+    let b = bare_begun (raw content) _ _ _ _ _ _ (bare content c.in-Acknowledgement.is) c.packet_type-of.ensures begun.state begun.bytes in
     record { state = b.0; bytes = b.1 }

@@ -4,21 +4,21 @@ use Rattle.codec.proofs.BackLaws.{begins, groups_fit, finished_back}
 use Rattle.codec.proofs.EncodingLaws.{read_back, encode_apart}
 use Rattle.codec.proofs.back.write.Goals as goal
 
-pub returns-in-default : goal.returns-in-default
-returns-in-default c =
+pub returns-in_default : goal.returns-in_default
+returns-in_default c =
     let p = c.args.packet.now in
-    absurd (begins (raw p.content) p.newest p.oldest _ c.requires _ c.in-default.ensures.state)
+    absurd (begins (raw p.content) p.newest p.oldest _ c.requires _ c.in_default.ensures.state)
 
-pub write-groups-draft-requires : goal.write-groups-draft-requires
-write-groups-draft-requires c =
+pub write_groups-draft-requires : goal.write_groups-draft-requires
+write_groups-draft-requires c =
     let p = c.args.packet.now in
-    let f = groups_fit (raw p.content) p.newest p.oldest _ c.requires _ _ _ c.in-Ok.ensures.state c.packet-type.ensures c.groups.ensures in
+    let f = groups_fit (raw p.content) p.newest p.oldest _ c.requires _ _ _ c.in-Ok.ensures.state c.packet_type.ensures c.groups.ensures in
     omega (arith, f, c.begin.auto.buffer)
 
 pub returns : goal.returns
 returns c =
     let p = c.args.packet.now in
-    let groups = c.write-groups-draft.ensures in
+    let groups = c.write_groups-draft.ensures in
     let end = c.finish-len.ensures in
-    let w = finished_back (raw p.content) p.newest p.oldest _ _ _ _ _ _ _ _ _ c.requires c.in-Ok.ensures.state c.begin.ensures.bytes c.packet-type.ensures c.groups.ensures groups.state groups.bytes end.state end.bytes in
+    let w = finished_back (raw p.content) p.newest p.oldest _ _ _ _ _ _ _ _ _ c.requires c.in-Ok.ensures.state c.begin.ensures.bytes c.packet_type.ensures c.groups.ensures groups.state groups.bytes end.state end.bytes in
     record { length = c.from.ensures ∙ w.0; buffer = w.1; faithful = record { read_back = read_back; apart = encode_apart } }

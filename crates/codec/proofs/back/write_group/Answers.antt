@@ -2,30 +2,30 @@ use Rattle.std.proofs.Common.{refl, arith}
 use Rattle.codec.proofs.BackLaws.{bundle_pieces, summary_pieces, plain_pieces, pieces_group}
 use Rattle.codec.proofs.back.write_group.Goals as goal
 
-pub write-pieces-requires-in-Summary : goal.write-pieces-requires-in-Summary
-write-pieces-requires-in-Summary c =
-    let p = summary_pieces _ _ c.requires.sound c.requires.least c.type-inv.content _ _ _ _ _ c.in-Summary.is c.split-at-in-Summary.ensures.front c.split-at-in-Summary.ensures.back c.split-at-in-Summary-2.ensures.back c.split-at-in-Summary-3.ensures.front c.split-at-in-Summary-3.ensures.back in
+pub write_pieces-requires-in-Summary : goal.write_pieces-requires-in-Summary
+write_pieces-requires-in-Summary c =
+    let p = summary_pieces _ _ c.requires.sound c.requires.least c.type_inv.content _ _ _ _ _ c.in-Summary.is c.split_at-in-Summary.ensures.front c.split_at-in-Summary.ensures.back c.split_at-in-Summary-2.ensures.back c.split_at-in-Summary-3.ensures.front c.split_at-in-Summary-3.ensures.back in
     record { whole = p.whole; room = omega (arith, p.long, c.requires.room) }
 
-pub write-pieces-requires-in-Acknowledgement : goal.write-pieces-requires-in-Acknowledgement
-write-pieces-requires-in-Acknowledgement c =
-    let p = plain_pieces _ _ c.requires.sound c.requires.least c.type-inv.content c.in-Acknowledgement.is in
+pub write_pieces-requires-in-Acknowledgement : goal.write_pieces-requires-in-Acknowledgement
+write_pieces-requires-in-Acknowledgement c =
+    let p = plain_pieces _ _ c.requires.sound c.requires.least c.type_inv.content c.in-Acknowledgement.is in
     record { whole = refl; room = omega (arith, p.long, c.requires.room) }
 
 pub returns-in-Bundle : goal.returns-in-Bundle
 returns-in-Bundle c =
-    let p = bundle_pieces _ _ c.requires.sound c.requires.least c.type-inv.content _ _ _ c.in-Bundle.is c.split-at.ensures.front c.split-at.ensures.back c.split-at-in-Bundle.ensures.back in
-    let w = pieces_group _ _ _ _ p c.write-pieces.ensures.state c.write-pieces.ensures.bytes in
+    let p = bundle_pieces _ _ c.requires.sound c.requires.least c.type_inv.content _ _ _ c.in-Bundle.is c.split_at.ensures.front c.split_at.ensures.back c.split_at-in-Bundle.ensures.back in
+    let w = pieces_group _ _ _ _ p c.write_pieces.ensures.state c.write_pieces.ensures.bytes in
     record { state = w.0; bytes = w.1 }
 
 pub returns-in-Summary : goal.returns-in-Summary
 returns-in-Summary c =
-    let p = summary_pieces _ _ c.requires.sound c.requires.least c.type-inv.content _ _ _ _ _ c.in-Summary.is c.split-at-in-Summary.ensures.front c.split-at-in-Summary.ensures.back c.split-at-in-Summary-2.ensures.back c.split-at-in-Summary-3.ensures.front c.split-at-in-Summary-3.ensures.back in
-    let w = pieces_group _ _ _ _ p c.write-pieces-in-Summary.ensures.state c.write-pieces-in-Summary.ensures.bytes in
+    let p = summary_pieces _ _ c.requires.sound c.requires.least c.type_inv.content _ _ _ _ _ c.in-Summary.is c.split_at-in-Summary.ensures.front c.split_at-in-Summary.ensures.back c.split_at-in-Summary-2.ensures.back c.split_at-in-Summary-3.ensures.front c.split_at-in-Summary-3.ensures.back in
+    let w = pieces_group _ _ _ _ p c.write_pieces-in-Summary.ensures.state c.write_pieces-in-Summary.ensures.bytes in
     record { state = w.0; bytes = w.1 }
 
 pub returns-in-Acknowledgement : goal.returns-in-Acknowledgement
 returns-in-Acknowledgement c =
-    let p = plain_pieces _ _ c.requires.sound c.requires.least c.type-inv.content c.in-Acknowledgement.is in
-    let w = pieces_group _ _ _ _ p c.write-pieces-in-Acknowledgement.ensures.state c.write-pieces-in-Acknowledgement.ensures.bytes in
+    let p = plain_pieces _ _ c.requires.sound c.requires.least c.type_inv.content c.in-Acknowledgement.is in
+    let w = pieces_group _ _ _ _ p c.write_pieces-in-Acknowledgement.ensures.state c.write_pieces-in-Acknowledgement.ensures.bytes in
     record { state = w.0; bytes = w.1 }

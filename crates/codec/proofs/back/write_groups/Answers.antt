@@ -7,8 +7,8 @@ use Rattle.codec.proofs.back.write_groups.Goals as goal
 pub loop-group-init : goal.loop-group-init
 loop-group-init c = grouped_none c.args.of c.args.groups.now c.args.buffer.now c.args.draft
 
-pub write-group-draft-requires : goal.write-group-draft-requires
-write-group-draft-requires c =
+pub write_group-draft-requires : goal.write_group-draft-requires
+write_group-draft-requires c =
     let s : Split = record { content = c.in-Ok.group.content.now; rest = c.in-Ok.group.rest.now } in
     let f = group_fits _ _ _ _ _ _ _ c.loop-group.invariant _ s c.requires c.in-Ok.ensures in
     record { sound = f.0; least = f.1; room = omega (arith, f.2, c.loop-group.auto.buffer) }
@@ -21,10 +21,10 @@ loop-group-smaller c =
 pub loop-group-preserved : goal.loop-group-preserved
 loop-group-preserved c =
     let s : Split = record { content = c.in-Ok.group.content.now; rest = c.in-Ok.group.rest.now } in
-    let step = c.write-group-draft.ensures in
+    let step = c.write_group-draft.ensures in
     grouped_more _ _ _ _ _ _ _ c.loop-group.invariant s _ _ c.requires c.in-Ok.ensures step.state step.bytes
 
 pub returns : goal.returns
 returns c =
-    let g = grouped_all _ _ _ _ _ _ _ c.loop-group.invariant c.in-default.field-0 c.in-default.ensures in
+    let g = grouped_all _ _ _ _ _ _ _ c.loop-group.invariant c.in_default.field-0 c.in_default.ensures in
     record { state = g.0; bytes = g.1 }

@@ -10,7 +10,7 @@ pub returns : goal.returns
 returns c =
     let node = c.args.node in
     let entries = c.args.entries.now in
-    let group = c.write-group-draft.ensures in
+    let group = c.write_group-draft.ensures in
     let end = c.finish-len.ensures in
     let w = packet_finished (acknowledgement_content node entries) Acknowledgement [] [] (acknowledgement_group node entries) _ _ _ c.args.buffer.now _ _ _ (acknowledgement_parts node entries) (omega arith) c.in-Ok.ensures.state c.begin.ensures.bytes group.state group.bytes end.state end.bytes in
     record { length = c.from.ensures ∙ w.0; buffer = w.1 }

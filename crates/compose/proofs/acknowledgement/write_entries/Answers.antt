@@ -5,14 +5,14 @@ use Rattle.compose.proofs.acknowledgement.write_entries.Goals as goal
 pub loop-entry-init : goal.loop-entry-init
 loop-entry-init c = entered_none c.args.entries.now c.args.group c.args.buffer.now
 
-pub write-entry-group-requires : goal.write-entry-group-requires
-write-entry-group-requires c =
+pub write_entry-group-requires : goal.write_entry-group-requires
+write_entry-group-requires c =
     let r = entry_room _ _ _ _ _ _ c.loop-entry.invariant _ c.loop-entry-test.true c.requires in
     omega (arith, r, c.loop-entry.auto.buffer)
 
 pub loop-entry-preserved : goal.loop-entry-preserved
 loop-entry-preserved c =
-    let step = c.write-entry-group.ensures in
+    let step = c.write_entry-group.ensures in
     entered_more _ _ _ _ _ _ c.loop-entry.invariant _ _ _ c.loop-entry-test.true c.requires step.state step.long step.bytes
 
 pub returns : goal.returns

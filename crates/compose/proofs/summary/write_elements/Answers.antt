@@ -7,14 +7,14 @@ pub loop-place-init : goal.loop-place-init
 loop-place-init g c =
     grouped_none (description_group g.K.Kind.model c.args.elements.now) (λ _. 60) c.args.places.now c.args.told.now c.args.draft.len c.args.buffer.now
 
-pub write-element-draft-requires : goal.write-element-draft-requires
-write-element-draft-requires g c =
+pub write_element-draft-requires : goal.write_element-draft-requires
+write_element-draft-requires g c =
     let r = grouped_room _ _ _ _ _ _ _ _ _ c.loop-place.invariant _ c.loop-place-test.true c.requires in
     omega (arith, r, c.loop-place.auto.buffer)
 
 pub loop-place-preserved : goal.loop-place-preserved
 loop-place-preserved g c =
-    let step = c.write-element-draft.ensures in
+    let step = c.write_element-draft.ensures in
     grouped_more _ _ _ _ _ _ _ _ _ c.loop-place.invariant _ _ c.loop-place-test.true c.requires step.state step.bytes step.short
 
 pub returns : goal.returns

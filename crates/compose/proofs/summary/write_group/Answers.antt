@@ -11,7 +11,7 @@ returns-in-Ok c =
     let group = c.args.group.now in
     let entry = c.args.numbers.now ++ c.args.instance.now in
     let count = 0 ∷ 0 ∷ 0 ∷ 1 ∷ [] in
-    let w = group_filled c.args.draft _ c.in-Ok.group _ Summary node group count entry c.args.buffer.now _ _ _ (omega arith) c.in-Ok.ensures.state c.group.ensures.bytes c.add-entry.ensures.state c.add-entry.ensures.bytes c.close.ensures.state c.close.ensures.bytes in
+    let w = group_filled c.args.draft _ c.in-Ok.group _ Summary node group count entry c.args.buffer.now _ _ _ (omega arith) c.in-Ok.ensures.state c.group.ensures.bytes c.add_entry.ensures.state c.add_entry.ensures.bytes c.close.ensures.state c.close.ensures.bytes in
     let is = entry_behind Summary node group count entry in
     record {
       state = w.0 ∙ ap (λ ys. c.args.draft.len + length ys) is;

@@ -3,13 +3,13 @@ use Rattle.tables.specs.Searches.{is_named}
 use Rattle.lines.proofs.TableLaws.{first_here, first_more, first_none, found}
 use Rattle.tables.proofs.search.find_in.Goals as goal
 
-pub returns-then-is-named : goal.returns-then-is-named
-returns-then-is-named c =
-    let e = first_here (is_named c.args.name.now) c.args.places.now c.loop-place.place None c.loop-place-test.true c.if-is-named.ensures c.loop-place.invariant in
+pub returns-then-is_named : goal.returns-then-is_named
+returns-then-is_named c =
+    let e = first_here (is_named c.args.name.now) c.args.places.now c.loop-place.place None c.loop-place-test.true c.if-is_named.ensures c.loop-place.invariant in
     record { place = e; first = found (is_named c.args.name.now) c.args.places.now _ e }
 
 pub loop-place-preserved : goal.loop-place-preserved
-loop-place-preserved c = first_more (is_named c.args.name.now) c.args.places.now c.loop-place.place None c.loop-place-test.true c.if-is-named.ensures c.loop-place.invariant
+loop-place-preserved c = first_more (is_named c.args.name.now) c.args.places.now c.loop-place.place None c.loop-place-test.true c.if-is_named.ensures c.loop-place.invariant
 
 pub returns : goal.returns
 returns c =

@@ -3,13 +3,13 @@ use Rattle.tables.specs.Searches.{is_free}
 use Rattle.lines.proofs.TableLaws.{first_here, first_more, first_none, found}
 use Rattle.tables.proofs.search.free_in.Goals as goal
 
-pub returns-then-is-free : goal.returns-then-is-free
-returns-then-is-free g c =
-    let e = first_here (is_free) c.args.places.now c.loop-place.place _ c.loop-place-test.true (c.if-is-free.ensures ∙ ap is_free c.index-places-place.is) c.loop-place.invariant in
+pub returns-then-is_free : goal.returns-then-is_free
+returns-then-is_free g c =
+    let e = first_here (is_free) c.args.places.now c.loop-place.place _ c.loop-place-test.true (c.if-is_free.ensures ∙ ap is_free c.index-places-place.is) c.loop-place.invariant in
     record { place = e; first = found (is_free) c.args.places.now _ e }
 
 pub loop-place-preserved : goal.loop-place-preserved
-loop-place-preserved g c = first_more (is_free) c.args.places.now c.loop-place.place _ c.loop-place-test.true (c.if-is-free.ensures ∙ ap is_free c.index-places-place.is) c.loop-place.invariant
+loop-place-preserved g c = first_more (is_free) c.args.places.now c.loop-place.place _ c.loop-place-test.true (c.if-is_free.ensures ∙ ap is_free c.index-places-place.is) c.loop-place.invariant
 
 pub returns : goal.returns
 returns g c =

@@ -38,4 +38,4 @@ loop-entry-preserved g c =
     )
 
 pub returns : goal.returns
-returns g c = read_all (listed c.loop-entry.descriptions) _ _ (ap (map (described_at g.K.Kind.model)) c.in-default.ensures) c.loop-entry.invariant.2
+returns g c = read_all (listed c.loop-entry.descriptions) _ _ (ap (map (described_at g.K.Kind.model)) c.in_default.ensures) c.loop-entry.invariant.2
