@@ -1,15 +1,14 @@
 -- What was written is read back. Assumes nothing.
-use Rattle.std.proofs.Common.{◌≡◌, ℕ, zero, suc, ◌+◌, ◌-◌, ◌*◌, ◌/◌, ◌%◌, ◌^◌, ◌<◌, ◌≤◌, true, false, cond, not, ◌||◌, eqb, ltb, List, [], ◌∷◌, ◌++◌, map, length, get_or, take, drop, Some, None, Ok, Err, Option, Result, sym, refl, ap, ◌∙◌, append_assoc, arith, length-append}
+use Rattle.std.proofs.Common.{◌≡◌, ℕ, ◌+◌, ◌*◌, ◌/◌, ◌%◌, ◌^◌, ◌<◌, ◌≤◌, cond, not, ◌||◌, eqb, ltb, List, [], ◌∷◌, ◌++◌, map, length, get_or, take, drop, Some, None, Ok, Option, Result, sym, refl, ap, ◌∙◌, append_assoc, arith, length-append}
 use Rattle.std.proofs.lemmas.List.{take_at, drop_at, get_or-append-add}
 use Rattle.std.proofs.lemmas.Bool.{cond-true, cond-false, le-ltb, eq-eqb}
 use Rattle.std.proofs.lemmas.Bool.Decides.{nat_tests}
 use Rattle.std.specs.List.{AllByRecursion as All}
-use Rattle.kinds.specs.BigEndian.{read16, at16, at32, write16, write32}
+use Rattle.kinds.specs.BigEndian.{read16, at16, write16, write32}
 use Rattle.kinds.specs.Words.{word16, word32}
 use Rattle.packets.specs.declared.acknowledgement.Acknowledged.{Acknowledged}
 use Rattle.packets.specs.declared.group.GroupFault.{GroupFault}
 use Rattle.packets.specs.declared.header.Header.{Header}
-use Rattle.packets.specs.declared.header.HeaderFault.{HeaderFault}
 use Rattle.packets.specs.declared.layout.PacketType.{PacketType}
 use Rattle.packets.specs.declared.layout.PacketType.TheVariants as type
 use Rattle.packets.specs.declared.packet.Fault.{Fault}
@@ -21,7 +20,7 @@ use Rattle.packets.specs.Contents.Raw.{bundle as raw_bundle, acknowledgement as 
 use Rattle.packets.specs.Contents.Said.{bundle, acknowledgement, summary, request}
 use Rattle.packets.specs.Encodings.{joined, element_bytes, entry_bytes, description_bytes, number_bytes, acknowledged_bytes, described_bytes, requested_bytes, said_type, said_fixed, said_contents, framed, headed, encode, ElementFits, EntryFits, DescriptionFits, AcknowledgedFits, DescribedFits, RequestedFits, SaidFits, Fits}
 use Rattle.packets.specs.declared.group.GroupFault.TheVariants as fault
-use Rattle.packets.specs.Groups.{count_fault, content_fault, contents, first_fault}
+use Rattle.packets.specs.Groups.{count_fault, contents, first_fault}
 use Rattle.packets.specs.Headers.{header_of, typed_header}
 use Rattle.packets.specs.Layouts.{number_of, type_of}
 use Rattle.packets.specs.Requests.{number_at}

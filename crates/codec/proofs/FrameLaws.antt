@@ -1,12 +1,11 @@
 -- Entries and groups that were written are read back. Assumes nothing.
-use Rattle.std.proofs.Common.{◌≡◌, ℕ, zero, suc, ◌+◌, ◌-◌, ◌*◌, ◌/◌, ◌%◌, ◌^◌, ◌<◌, ◌≤◌, true, false, cond, eqb, ltb, List, [], ◌∷◌, ◌++◌, map, length, take, drop, Some, None, Ok, Err, Option, Result, sym, refl, ap, ◌∙◌, arith, length-append}
+use Rattle.std.proofs.Common.{◌≡◌, ℕ, zero, suc, ◌+◌, ◌*◌, ◌/◌, ◌%◌, ◌<◌, ◌≤◌, List, [], ◌∷◌, ◌++◌, map, length, take, drop, None, Ok, Result, refl, ap, ◌∙◌, arith, length-append}
 use Rattle.std.proofs.lemmas.List.{take_at, drop_at}
 use Rattle.std.proofs.lemmas.Bool.{cond-true, cond-false, lt-ltb, le-ltb, eq-eqb, ne_eqb}
 use Rattle.std.specs.List.{AllByRecursion as All}
-use Rattle.kinds.specs.BigEndian.{read16, at16, write16}
+use Rattle.kinds.specs.BigEndian.{read16, at16}
 use Rattle.kinds.specs.Words.{word16}
 use Rattle.packets.specs.declared.group.GroupFault.{GroupFault}
-use Rattle.packets.specs.declared.group.Misfit.{Misfit}
 use Rattle.packets.specs.declared.layout.PacketType.{PacketType}
 use Rattle.packets.specs.declared.layout.PacketType.TheVariants.{Bundle, Acknowledgement, Summary, Request}
 use Rattle.packets.specs.Contents.{entries}

@@ -1,5 +1,5 @@
 -- Writing back a packet that was read. Assumes nothing.
-use Rattle.std.specs.Prelude.{◌≡◌, ℕ, ◌<◌, ◌≤◌, cond, List, [], ◌∷◌, ◌++◌, map, length, take, Ok, Err, Result, nat_lt}
+use Rattle.std.specs.Prelude.{◌≡◌, ℕ, ◌<◌, ◌≤◌, cond, List, [], ◌∷◌, map, length, take, Ok, Err, Result, nat_lt}
 use Rattle.kinds.specs.BigEndian.{write16, write32}
 use Rattle.packets.specs.declared.layout.PacketType.{PacketType}
 use Rattle.packets.specs.declared.layout.PacketType.TheVariants as type

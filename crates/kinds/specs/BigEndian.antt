@@ -1,5 +1,5 @@
 -- Numbers of two and four bytes, the high byte first. Assumes nothing.
-use Rattle.std.specs.Prelude.{ℕ, ◌+◌, ◌*◌, ◌/◌, ◌%◌, List, [], ◌∷◌, slice_index}
+use Rattle.std.specs.Prelude.{ℕ, ◌+◌, ◌*◌, ◌/◌, ◌%◌, List, ◌∷◌, slice_index}
 
 abbrev pub read16 : ℕ → ℕ → ℕ
 read16 a b = a * 256 + b

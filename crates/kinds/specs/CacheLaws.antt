@@ -1,7 +1,6 @@
 -- The cache kind keeps the laws. Assumes nothing.
-use Rattle.std.specs.Prelude.{◌≡◌, ℕ, zero, suc, ◌+◌, ◌-◌, ◌^◌, ◌<◌, Bool, true, false, cond, ◌&&◌, List, ℤ, pos, negsuc, ◌+ℤ◌, Some, FitsSigned, ◌==◌, int_lt, nat_eq, refl}
+use Rattle.std.specs.Prelude.{◌≡◌, ℕ, zero, suc, ◌-◌, ◌^◌, ◌<◌, Bool, true, false, cond, List, ℤ, pos, negsuc, ◌+ℤ◌, Some, FitsSigned, ◌==◌, int_lt, nat_eq, refl}
 use Rattle.std.proofs.Common.{ap, sym, ◌∙◌, arith, to_z, of_z}
-use Rattle.std.specs.Int.Bits.{bit_and, bit_or}
 use Rattle.std.proofs.lemmas.Nat.{or_lt}
 use Rattle.std.specs.Int.Signed.{mag}
 use Rattle.std.specs.Int.{w32}

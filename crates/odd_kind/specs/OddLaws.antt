@@ -1,11 +1,10 @@
 -- The odd kind keeps the laws. Assumes nothing.
 use Rattle.std.specs.Prelude.{◌≡◌, ℕ, ◌+◌, ◌-◌, ◌%◌, ◌^◌, ◌<◌, true, List, [], Some, refl}
-use Rattle.std.proofs.Common.{ap, sym, ◌∙◌, arith}
+use Rattle.std.proofs.Common.{arith}
 use Rattle.std.proofs.lemmas.Bool.{ltb-true, and_parts}
 use Rattle.std.proofs.lemmas.Bool.Decides.{nat_tests}
-use Rattle.std.specs.List.{AllByRecursion as All}
 use Rattle.kinds.specs.declared.rank.Rank.TheVariants.{Same, Higher}
-use Rattle.kinds.specs.BigEndian.{read16, write16, at16}
+use Rattle.kinds.specs.BigEndian.{read16, write16}
 use Rattle.kinds.specs.Kinds.{Laws, EightBytes}
 use Rattle.kinds.specs.Ranks.{WeakOrder, by_number}
 use Rattle.kinds.specs.WeakOrders.{then_order, key_order, number_order}

@@ -14,12 +14,12 @@ use Rattle.packets.specs.declared.packet.Fault.TheVariants.{Header as HeaderFaul
 use Rattle.packets.specs.declared.packet.Packet.{Packet}
 use Rattle.packets.specs.declared.summary.Description.{Description}
 use Rattle.packets.specs.Acknowledgements.{entry_at}
-use Rattle.packets.specs.Bundles.{BundleView, ElementView, element_at, bundle_of, viewed_bundle}
+use Rattle.packets.specs.Bundles.{BundleView, ElementView, element_at, bundle_of}
 use Rattle.packets.specs.Groups.{contents, first_fault}
 use Rattle.packets.specs.Headers.{header_of}
 use Rattle.packets.specs.Named.{named_at}
 use Rattle.packets.specs.Requests.{number_at}
-use Rattle.packets.specs.Summaries.{SummaryView, described_at, description_at, summary_of, viewed_summary}
+use Rattle.packets.specs.Summaries.{SummaryView, described_at, description_at, summary_of}
 
 -- a packet behind its header, its groups as bytes
 pub data Raw : Type 0 where

@@ -1,5 +1,5 @@
 -- Sets of places. Assumes nothing.
-use Rattle.std.specs.Prelude.{◌≡◌, ℕ, ◌<◌, Bool, true, false, cond, List, length, set, replicate, ◌≢◌, nat_lt, slice_index_or, slice_set}
+use Rattle.std.specs.Prelude.{◌≡◌, ℕ, ◌<◌, Bool, true, false, cond, List, length, replicate, ◌≢◌, nat_lt, slice_index_or, slice_set}
 use Rattle.places.specs.declared.set.PlaceSet.{PlaceSet}
 
 abbrev pub mark_at : List Bool → ℕ → Bool
