@@ -3,7 +3,6 @@ use Rattle.std.proofs.Common.{◌≡◌, ℕ, List, map, length, take, drop, sym
 use mathlib.Core.List.{map-map}
 use Rattle.std.proofs.lemmas.List.{drop-drop}
 use Rattle.kinds.specs.Kinds.{Operations}
-use Rattle.packets.specs.declared.layout.PacketType.{PacketType}
 use Rattle.packets.specs.declared.layout.PacketType.TheVariants.{Acknowledgement, Summary, Request}
 use Rattle.packets.specs.Acknowledgements.{entry_at}
 use Rattle.packets.specs.Contents.{entries, acknowledged_group, described_group, requested_group}

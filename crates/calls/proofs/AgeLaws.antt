@@ -1,5 +1,5 @@
 -- What a second makes older. Assumes nothing.
-use Rattle.std.proofs.Common.{◌≡◌, ℕ, suc, ◌<◌, ◌≤◌, false, cond, ltb, ◌⊎◌, List, [], length, get_or, set, Some, None, Option, sym, refl, ap, ◌∙◌, subst, inl, inr, arith}
+use Rattle.std.proofs.Common.{◌≡◌, ℕ, suc, ◌<◌, ◌≤◌, false, ltb, ◌⊎◌, List, [], length, get_or, set, Some, None, Option, sym, refl, ap, ◌∙◌, subst, inl, inr, arith}
 use Rattle.std.proofs.lemmas.List.{get_or-set_other, get_or-set_same, set-get_or}
 use Rattle.std.proofs.lemmas.Bool.{cases_eq, cond_both, ltb-true}
 use Rattle.kinds.specs.Kinds.{Operations, is_expired}
@@ -8,7 +8,7 @@ use Rattle.tables.specs.declared.element.Element.{Element}
 use Rattle.database.specs.declared.node.Node.{Node}
 use Rattle.database.specs.Entries.{entered, entered_node}
 use Rattle.database.specs.Nodes.{World, world, element_at}
-use Rattle.database.specs.Seconds.{age_at, age_by, aged_at, aged_all}
+use Rattle.database.specs.Seconds.{age_at, aged_at, aged_all}
 use Rattle.calls.proofs.DropLaws.{not_both, turns_keep}
 
 -- an instance is as it was, or a second older where it was not expired and an element is held

@@ -1,5 +1,5 @@
 -- What up, down, originate and second answer and leave. Assumes nothing.
-use Rattle.std.specs.Prelude.{ℕ, Bool, true, false, cond, not, ◌&&◌, ◌||◌, eqb, List, [], ◌∷◌, length, get_or, Some, None, Ok, Err, Option, Result}
+use Rattle.std.specs.Prelude.{ℕ, not, List, [], ◌∷◌, Some, None, Ok, Err, Option, Result}
 use Rattle.kinds.specs.Kinds.{Operations}
 use Rattle.kinds.specs.Recency.{instance_at}
 use Rattle.packets.specs.declared.ids.Name.{Name}

@@ -1,5 +1,5 @@
 -- The conditions under which calls decline. Assumes nothing.
-use Rattle.std.specs.Prelude.{ℕ, ◌%◌, Bool, true, false, cond, not, ◌&&◌, ◌||◌, List, length, ◌==◌, nat_le, slice_index_or}
+use Rattle.std.specs.Prelude.{ℕ, ◌%◌, Bool, not, ◌&&◌, ◌||◌, List, length, ◌==◌, nat_le, slice_index_or}
 use Rattle.packets.specs.declared.ids.NodeId.{NodeId}
 use Rattle.packets.specs.Ids.{same_node}
 use Rattle.database.specs.declared.node.Node.{Node}

@@ -1,5 +1,5 @@
 -- What calls keep, in the words of the subject. Assumes nothing.
-use Rattle.std.specs.Prelude.{◌≡◌, ℕ, ◌<◌, Bool, true, false, ◌⊎◌, List, length, Some, None, Err, Option, Result, slice_index_or}
+use Rattle.std.specs.Prelude.{◌≡◌, ℕ, ◌<◌, true, false, ◌⊎◌, length, Some, None, Err, Result, slice_index_or}
 use Rattle.kinds.specs.Kinds.{Operations, is_expired}
 use Rattle.kinds.specs.Recency.{instance_at}
 use Rattle.packets.specs.declared.ids.Name.{Name}

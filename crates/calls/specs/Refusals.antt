@@ -1,5 +1,5 @@
 -- Why a call declines, and the number of each reason. Assumes nothing.
-use Rattle.std.specs.Prelude.{ℕ, Bool, true, false, cond, List, [], ◌∷◌, Ok, Err, Result}
+use Rattle.std.specs.Prelude.{ℕ, Bool, cond, List, [], ◌∷◌, Err, Result}
 use Rattle.calls.specs.declared.refusal.Refusal.{Refusal}
 use Rattle.calls.specs.declared.refusal.Refusal.TheVariants.{RowLength, LineNumber, LineState, NeighbourId, BufferLength, PacketHeader, PacketGroup, NotSummary, WantPlaces, BadElement, PlacesFull, LastInstance, NotHeld}
 

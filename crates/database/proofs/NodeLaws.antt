@@ -1,12 +1,11 @@
 -- A node at its start, and names at one place. Assumes nothing.
-use Rattle.std.proofs.Common.{◌≡◌, ℕ, zero, suc, ◌<◌, ◌≤◌, Bool, true, false, cond, ◌&&◌, List, [], ◌∷◌, length, get_or, set, replicate, Some, None, Option, sym, refl, ap, ◌∙◌, subst, inl, inr, arith}
+use Rattle.std.proofs.Common.{◌≡◌, ℕ, zero, suc, false, List, get_or, replicate, None, refl, ap, ◌∙◌}
 use Rattle.std.proofs.lemmas.Bool.{both_ways}
 use Rattle.packets.specs.declared.ids.Name.{Name}
 use Rattle.packets.specs.declared.ids.NodeId.{NodeId}
 use Rattle.packets.specs.declared.ids.PeerGroupId.{PeerGroupId}
 use Rattle.places.specs.declared.store.BodyStore.{BodyStore}
 use Rattle.places.specs.BodyStores.{no_bodies}
-use Rattle.tables.specs.declared.element.Element.{Element}
 use Rattle.lines.specs.declared.line.Line.{Line}
 use Rattle.database.specs.declared.node.Node.{Node}
 use Rattle.database.specs.Nodes.{OnePlace, element_at, idle_line, started}

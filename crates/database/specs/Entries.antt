@@ -1,5 +1,5 @@
 -- An instance enters at a place; a place is given up. Assumes nothing.
-use Rattle.std.specs.Prelude.{ℕ, Bool, true, false, cond, not, ◌&&◌, List, [], map, Some, None, Option, slice_index_or, slice_set}
+use Rattle.std.specs.Prelude.{ℕ, List, map, Some, None, slice_index_or, slice_set}
 use Rattle.kinds.specs.Kinds.{Operations}
 use Rattle.packets.specs.declared.ids.NodeId.{NodeId}
 use Rattle.places.specs.BodyStores.{emptied, stored}

@@ -1,5 +1,5 @@
 -- The node's record and the rows that the calls are lent. Assumes nothing.
-use Rattle.std.specs.Prelude.{◌≡◌, ℕ, Bool, true, false, List, replicate, None, Option, slice_index_or}
+use Rattle.std.specs.Prelude.{◌≡◌, ℕ, true, List, replicate, None, Option, slice_index_or}
 use Rattle.packets.specs.declared.ids.Name.{Name}
 use Rattle.packets.specs.declared.ids.NodeId.{NodeId}
 use Rattle.packets.specs.declared.ids.PeerGroupId.{PeerGroupId}

@@ -1,5 +1,5 @@
 -- The passes of a second. Assumes nothing.
-use Rattle.std.specs.Prelude.{ℕ, Bool, true, false, cond, not, ◌&&◌, ◌||◌, List, [], map, length, Some, None, Option, nat_lt, slice_set}
+use Rattle.std.specs.Prelude.{ℕ, cond, not, ◌&&◌, List, [], map, length, Some, None, Option, nat_lt, slice_set}
 use Rattle.kinds.specs.Kinds.{Operations, is_expired}
 use Rattle.kinds.specs.Recency.{instance_at}
 use Rattle.tables.specs.declared.element.Element.{Element}

@@ -1,5 +1,5 @@
 -- A summary is accepted. Assumes nothing.
-use Rattle.std.specs.Prelude.{ℕ, true, cond, List, Some, None, Option}
+use Rattle.std.specs.Prelude.{ℕ, true, List, Some, None, Option}
 use Rattle.kinds.specs.Kinds.{Operations}
 use Rattle.packets.specs.Contents.{PacketView}
 use Rattle.places.specs.declared.set.PlaceSet.{PlaceSet}

@@ -5,7 +5,6 @@ use Rattle.kinds.specs.Kinds.{Operations}
 use Rattle.kinds.specs.Recency.{instance_at}
 use Rattle.packets.specs.Bundles.{ElementView}
 use Rattle.packets.specs.Ids.{same_node}
-use Rattle.places.specs.declared.count.SendCount.{SendCount}
 use Rattle.places.specs.declared.store.BodyStore.{BodyStore}
 use Rattle.places.specs.BodyStores.{body_at}
 use Rattle.places.specs.PlaceSets.{has}
@@ -13,7 +12,7 @@ use Rattle.places.specs.SendCounts.{due, sent_count}
 use Rattle.tables.specs.declared.element.Element.{Element}
 use Rattle.lines.specs.declared.line.Line.{Line}
 use Rattle.database.specs.declared.node.Node.{Node}
-use Rattle.lines.specs.Lines.{resend_limit, with_marks}
+use Rattle.lines.specs.Lines.{resend_limit}
 use Rattle.exchange.specs.Selections.{places_where}
 
 -- owed on the line, and due

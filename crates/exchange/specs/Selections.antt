@@ -1,5 +1,5 @@
 -- Places of a table chosen in order, and what is done with each. Assumes nothing.
-use Rattle.std.specs.Prelude.{ℕ, ◌+◌, Bool, true, false, cond, List, [], ◌∷◌, take, Some, None, Option, slice_index_or}
+use Rattle.std.specs.Prelude.{ℕ, ◌+◌, Bool, false, cond, List, [], ◌∷◌, take, Some, None, Option, slice_index_or}
 use Rattle.places.specs.PlaceLists.{kept}
 
 -- a free place does not pass

@@ -1,5 +1,5 @@
 -- Our own summaries. Assumes nothing.
-use Rattle.std.specs.Prelude.{ℕ, Bool, true, false, not, ◌&&◌, ◌||◌, List, [], ◌∷◌, Option}
+use Rattle.std.specs.Prelude.{ℕ, Bool, true, false, List, [], ◌∷◌, Option}
 use Rattle.kinds.specs.Kinds.{Operations}
 use Rattle.kinds.specs.Recency.{instance_at}
 use Rattle.packets.specs.Contents.{DescribedGroup, Said, PacketView}

@@ -1,12 +1,11 @@
 -- One line: its state, and what its marks become. Assumes nothing.
-use Rattle.std.specs.Prelude.{ℕ, ◌+◌, ◌%◌, ◌^◌, Bool, true, false, cond, not, ◌&&◌, List, [], map, None, Option, slice_set}
+use Rattle.std.specs.Prelude.{ℕ, ◌+◌, ◌%◌, ◌^◌, Bool, true, false, cond, not, ◌&&◌, List, [], map, None, slice_set}
 use Rattle.packets.specs.declared.ids.NodeId.{NodeId}
 use Rattle.packets.specs.Ids.{same_node}
 use Rattle.places.specs.declared.count.SendCount.{SendCount}
 use Rattle.places.specs.declared.set.PlaceSet.{PlaceSet}
 use Rattle.places.specs.PlaceSets.{no_places, with_place, without_place, has}
 use Rattle.places.specs.SendCounts.{fresh_count, raised}
-use Rattle.lines.specs.declared.line.Accepted.{Accepted}
 use Rattle.lines.specs.declared.line.Line.{Line}
 use Rattle.lines.specs.declared.line.OwnSummary.{OwnSummary}
 use Rattle.lines.specs.declared.line.State.{State}

@@ -12,7 +12,7 @@ use Rattle.lines.specs.declared.machine.Reaction.{Reaction}
 use Rattle.lines.specs.declared.machine.Reaction.TheVariants.{Accepts, AnswersAgain, Ignores, Restarts}
 use Rattle.lines.specs.declared.machine.SummaryEvent.{SummaryEvent}
 use Rattle.lines.specs.declared.machine.SummaryEvent.TheVariants.{MakesSlave, MakesMaster, Other, Duplicate, Wrong, InSequence}
-use Rattle.lines.specs.Lines.{cleared_line, following, with_marks}
+use Rattle.lines.specs.Lines.{cleared_line, following}
 use Rattle.lines.specs.Progress.{begun, has_more}
 use Rattle.places.specs.declared.set.PlaceSet.{PlaceSet}
 

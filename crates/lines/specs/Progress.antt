@@ -1,5 +1,5 @@
 -- How far an exchange has come on a line. Assumes nothing.
-use Rattle.std.specs.Prelude.{ℕ, Bool, true, false, cond, not, ◌&&◌, ◌||◌, List, [], ◌∷◌, set, Some, None, Option, ◌==◌, bit_and, slice_set}
+use Rattle.std.specs.Prelude.{ℕ, Bool, true, false, cond, not, ◌&&◌, ◌||◌, List, [], ◌∷◌, Some, Option, ◌==◌, bit_and, slice_set}
 use Rattle.places.specs.declared.set.PlaceSet.{PlaceSet}
 use Rattle.places.specs.declared.count.SendCount.{SendCount}
 use Rattle.places.specs.PlaceSets.{no_places, with_place, without_place}

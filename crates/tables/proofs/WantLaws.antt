@@ -1,6 +1,6 @@
 -- What is left of the wants, and which lines are loading. Assumes nothing.
-use Rattle.std.proofs.Common.{◌≡◌, ℕ, zero, suc, ◌+◌, ◌<◌, ◌≤◌, Bool, true, false, cond, ◌&&◌, eqb, ltb, List, [], ◌∷◌, map, length, get_or, Some, None, Option, sym, refl, ap, ◌∙◌, subst, inl, inr, arith}
-use lib.ListN.{get_or-map, get_or-eq_default}
+use Rattle.std.proofs.Common.{◌≡◌, ℕ, zero, suc, ◌+◌, ◌<◌, ◌≤◌, Bool, true, false, cond, ◌&&◌, eqb, List, [], ◌∷◌, length, get_or, Some, None, Option, sym, refl, ap, ◌∙◌, inl, inr, arith}
+use lib.ListN.{get_or-map}
 use Rattle.std.proofs.lemmas.Bool.{both_ways, cases_lt, lt-ltb, cond-true}
 use Rattle.kinds.specs.declared.rank.Rank.{Rank}
 use Rattle.kinds.specs.declared.rank.Rank.TheVariants.{Lower, Same, Higher}
@@ -12,7 +12,7 @@ use Rattle.lines.specs.declared.line.Line.{Line}
 use Rattle.lines.specs.declared.line.State.{State}
 use Rattle.lines.specs.declared.line.State.TheVariants.{Down, Negotiating, Exchanging, Loading, Full}
 use Rattle.lines.specs.Lines.{no_line}
-use Rattle.lines.specs.Tables.{First, by_place, first_where, map_from}
+use Rattle.lines.specs.Tables.{First, map_from}
 use Rattle.lines.proofs.TableLaws.{found}
 use Rattle.tables.specs.declared.want.Want.{Want}
 use Rattle.tables.specs.Searches.{is_free}

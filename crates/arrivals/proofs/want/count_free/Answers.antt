@@ -10,8 +10,8 @@ loop-want-preserved c =
     let i = c.loop-want.want-index in
     let inv = c.loop-want.invariant in
     elim c.if-is_free.branch [
-      | then-is-free w ↦ (omega (arith, w.count-is, inv.0), counted xs i None (get_or xs i None) c.loop-want-test.true refl free_places _ _ _ _ refl w.if-is_free.ensures w.count-is inv.1)
-      | else-is-free w ↦ (omega (arith, w.count-is, inv.0), uncounted xs i None (get_or xs i None) c.loop-want-test.true refl free_places _ _ _ _ refl w.if-is_free.ensures w.count-is inv.1)
+      | then-is_free w ↦ (omega (arith, w.count-is, inv.0), counted xs i None (get_or xs i None) c.loop-want-test.true refl free_places _ _ _ _ refl w.if-is_free.ensures w.count-is inv.1)
+      | else-is_free w ↦ (omega (arith, w.count-is, inv.0), uncounted xs i None (get_or xs i None) c.loop-want-test.true refl free_places _ _ _ _ refl w.if-is_free.ensures w.count-is inv.1)
     ]
 
 pub returns : goal.returns

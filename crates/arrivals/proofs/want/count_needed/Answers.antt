@@ -17,8 +17,8 @@ loop-i-preserved g c =
     let v = world c.args.node.now c.args.elements.now [] in
     let later = ap (λ ms. needs_place ops c.args.line v (naming_view x) && not (some_where (needs_for ops c.args.line v x.name) (map naming_view ms))) (to_end (i + 1) xs) in
     elim c.if-is_last_needed.branch [
-      | then-is-last-needed w ↦ (omega (arith, w.count-is, inv.0), λ ws. counted xs i x x c.loop-i-test.true c.index-namings-i.is (λ ms. needed ops c.args.line (world c.args.node.now c.args.elements.now ws) (map naming_view ms)) _ _ _ _ refl (w.if-is_last_needed.ensures ∙ later) w.count-is (inv.1 ws))
-      | else-is-last-needed w ↦ (omega (arith, w.count-is, inv.0), λ ws. uncounted xs i x x c.loop-i-test.true c.index-namings-i.is (λ ms. needed ops c.args.line (world c.args.node.now c.args.elements.now ws) (map naming_view ms)) _ _ _ _ refl (w.if-is_last_needed.ensures ∙ later) w.count-is (inv.1 ws))
+      | then-is_last_needed w ↦ (omega (arith, w.count-is, inv.0), λ ws. counted xs i x x c.loop-i-test.true c.index-namings-i.is (λ ms. needed ops c.args.line (world c.args.node.now c.args.elements.now ws) (map naming_view ms)) _ _ _ _ refl (w.if-is_last_needed.ensures ∙ later) w.count-is (inv.1 ws))
+      | else-is_last_needed w ↦ (omega (arith, w.count-is, inv.0), λ ws. uncounted xs i x x c.loop-i-test.true c.index-namings-i.is (λ ms. needed ops c.args.line (world c.args.node.now c.args.elements.now ws) (map naming_view ms)) _ _ _ _ refl (w.if-is_last_needed.ensures ∙ later) w.count-is (inv.1 ws))
     ]
 
 pub returns : goal.returns

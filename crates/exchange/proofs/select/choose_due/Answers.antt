@@ -1,4 +1,4 @@
-use Rattle.std.proofs.Common.{[], None, ap, ◌∙◌}
+use Rattle.std.proofs.Common.{None, ap}
 use Rattle.exchange.specs.Handing.{due_want}
 use Rattle.exchange.specs.Selections.{chosen}
 use Rattle.exchange.proofs.SelectionLaws.{chosen_more, chosen_all, first_32}

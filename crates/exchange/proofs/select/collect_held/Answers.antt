@@ -1,4 +1,4 @@
-use Rattle.std.proofs.Common.{None, ap}
+use Rattle.std.proofs.Common.{None}
 use Rattle.exchange.proofs.SelectionLaws.{held_more, held_all}
 use Rattle.exchange.proofs.select.collect_held.Goals as goal
 

@@ -1,7 +1,6 @@
 use Rattle.std.proofs.Common.{◌≡◌, drop}
 use Rattle.lines.specs.Tables.{some_where}
 use Rattle.places.specs.PlaceSets.{has}
-use Rattle.lines.specs.declared.line.Line.{Line}
 use Rattle.lines.proofs.marks.is_owed.Given as goal
 
 abbrev pub invariant-loop-line : goal.invariant-loop-line
