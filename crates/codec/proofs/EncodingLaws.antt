@@ -3,7 +3,7 @@ use Rattle.std.proofs.Common.{◌≡◌, ℕ, ◌+◌, ◌*◌, ◌/◌, ◌%◌
 use Rattle.std.proofs.lemmas.List.{take_at, drop_at, get_or-append-add}
 use Rattle.std.proofs.lemmas.Bool.{cond-true, cond-false, le-ltb, eq-eqb}
 use Rattle.std.proofs.lemmas.Bool.Decides.{nat_tests}
-use Rattle.std.specs.List.{AllByRecursion as All}
+use Rattle.std.specs.List.{AllByRecursion}
 use Rattle.kinds.specs.BigEndian.{read16, at16, write16, write32}
 use Rattle.kinds.specs.Words.{word16, word32}
 use Rattle.packets.specs.declared.acknowledgement.Acknowledged.{Acknowledged}
@@ -70,7 +70,7 @@ number_length n f = refl
 module _ {X : Type 0} (at : List ℕ → X) (bytes : X → List ℕ) (P : X → Type 0) (size : ℕ)
     (sized : (x : X) → P x → length (bytes x) ≡ size)
     (reads : (x : X) (rest : List ℕ) → P x → at (bytes x ++ rest) ≡ x)
-    (front : List ℕ) (n : ℕ) (long : length front ≡ n) (xs : List X) (fit : All P xs) where
+    (front : List ℕ) (n : ℕ) (long : length front ≡ n) (xs : List X) (fit : AllByRecursion P xs) where
   abbrev tail : List ℕ
   tail = write16 (length xs) (joined (map bytes xs))
 
@@ -177,7 +177,7 @@ element_sound e f m = record {
   most = m;
 }
 
-map_back : {X : Type 0} (at : List ℕ → X) (bytes : X → List ℕ) (P : X → Type 0) → ((x : X) → P x → at (bytes x) ≡ x) → (xs : List X) → All P xs → map at (map bytes xs) ≡ xs
+map_back : {X : Type 0} (at : List ℕ → X) (bytes : X → List ℕ) (P : X → Type 0) → ((x : X) → P x → at (bytes x) ≡ x) → (xs : List X) → AllByRecursion P xs → map at (map bytes xs) ≡ xs
 map_back at bytes P h [] a = refl
 map_back at bytes P h (x ∷ xs) a =
     let p = h x a.0 in
@@ -209,7 +209,7 @@ written t bytes gs = joined (map (framed t) (map bytes gs))
 module _ {G : Type 0} (t : PacketType) (at : List ℕ → G) (bytes : G → List ℕ) (P : G → Type 0)
     (sound : (g : G) → P g → 4 + length (bytes g) ≤ 2048 → Sound t (bytes g))
     (back : (g : G) → P g → at (bytes g) ≡ g)
-    (gs : List G) (fit : All P gs) (short : length (written t bytes gs) ≤ 2048) where
+    (gs : List G) (fit : AllByRecursion P gs) (short : length (written t bytes gs) ≤ 2048) where
   groups_whole : first_fault (length (written t bytes gs)) t (written t bytes gs) ≡ None
   groups_whole = faultless t _ (map bytes gs) (sound_all t bytes P sound gs fit short) (omega arith)
 

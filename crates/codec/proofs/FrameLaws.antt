@@ -2,7 +2,7 @@
 use Rattle.std.proofs.Common.{◌≡◌, ℕ, zero, suc, ◌+◌, ◌*◌, ◌/◌, ◌%◌, ◌<◌, ◌≤◌, List, [], ◌∷◌, ◌++◌, map, length, take, drop, None, Ok, Result, refl, ap, ◌∙◌, arith, length-append}
 use Rattle.std.proofs.lemmas.List.{take_at, drop_at}
 use Rattle.std.proofs.lemmas.Bool.{cond-true, cond-false, lt-ltb, le-ltb, eq-eqb, ne_eqb}
-use Rattle.std.specs.List.{AllByRecursion as All}
+use Rattle.std.specs.List.{AllByRecursion}
 use Rattle.kinds.specs.BigEndian.{read16, at16}
 use Rattle.kinds.specs.Words.{word16}
 use Rattle.packets.specs.declared.group.GroupFault.{GroupFault}
@@ -20,7 +20,7 @@ both p q = cc
 module _ {X : Type 0} (at : List ℕ → X) (bytes : X → List ℕ) (P : X → Type 0) (size : ℕ)
     (sized : (x : X) → P x → length (bytes x) ≡ size)
     (reads : (x : X) (rest : List ℕ) → P x → at (bytes x ++ rest) ≡ x) where
-  pub entries_length : (xs : List X) → All P xs → length (joined (map bytes xs)) ≡ length xs * size
+  pub entries_length : (xs : List X) → AllByRecursion P xs → length (joined (map bytes xs)) ≡ length xs * size
   entries_length [] a = omega arith
   entries_length (x ∷ xs) a =
       length-append (bytes x) (joined (map bytes xs))
@@ -31,7 +31,7 @@ module _ {X : Type 0} (at : List ℕ → X) (bytes : X → List ℕ) (P : X → 
       suc_times : (m n : ℕ) → suc m * n ≡ n + m * n
       suc_times m n = omega arith
 
-  pub entries_back : 0 < size → (k : ℕ) (xs : List X) → All P xs → length xs ≤ k → entries at size k (joined (map bytes xs)) ≡ xs
+  pub entries_back : 0 < size → (k : ℕ) (xs : List X) → AllByRecursion P xs → length xs ≤ k → entries at size k (joined (map bytes xs)) ≡ xs
   unfolding entries
   entries_back p zero [] a l = refl
   entries_back p zero (x ∷ xs) a l = absurd (omega arith)
@@ -78,7 +78,7 @@ module _ (t : PacketType) where
   framed_longer : (c : List ℕ) (cs : List (List ℕ)) → length (joined (map (framed t) (c ∷ cs))) ≡ 4 + length c + length (joined (map (framed t) cs))
   framed_longer c cs = let n = length-append c (joined (map (framed t) cs)) in omega arith
 
-  pub faultless : (k : ℕ) (cs : List (List ℕ)) → All (Sound t) cs → length (joined (map (framed t) cs)) ≤ k → first_fault k t (joined (map (framed t) cs)) ≡ None
+  pub faultless : (k : ℕ) (cs : List (List ℕ)) → AllByRecursion (Sound t) cs → length (joined (map (framed t) cs)) ≤ k → first_fault k t (joined (map (framed t) cs)) ≡ None
   unfolding first_fault
   faultless zero [] a l = refl
   faultless zero (c ∷ cs) a l = absurd (omega (arith, framed_longer c cs))
@@ -88,7 +88,7 @@ module _ (t : PacketType) where
       cond-false _ _ _ (ne_eqb (length (framed t c ++ rest)) 0 (omega arith))
       ∙ ap (after_group (first_fault k t) (framed t c ++ rest)) (split_framed t c rest a.0) ∙ faultless k cs a.1 (omega (arith, framed_longer c cs))
 
-  pub contents_back : (k : ℕ) (cs : List (List ℕ)) → All (Sound t) cs → length (joined (map (framed t) cs)) ≤ k → contents k t (joined (map (framed t) cs)) ≡ cs
+  pub contents_back : (k : ℕ) (cs : List (List ℕ)) → AllByRecursion (Sound t) cs → length (joined (map (framed t) cs)) ≤ k → contents k t (joined (map (framed t) cs)) ≡ cs
   unfolding contents
   contents_back zero [] a l = refl
   contents_back zero (c ∷ cs) a l = absurd (omega (arith, framed_longer c cs))
@@ -99,7 +99,7 @@ module _ (t : PacketType) where
       ∙ ap (before_misfit (contents k t)) (split_framed t c rest a.0) ∙ ap (λ ds. c ∷ ds) (contents_back k cs a.1 (omega (arith, framed_longer c cs)))
 
   -- what is written within a packet's length is sound, each by itself
-  pub sound_all : {G : Type 0} (bytes : G → List ℕ) (P : G → Type 0) → ((g : G) → P g → 4 + length (bytes g) ≤ 2048 → Sound t (bytes g)) → (gs : List G) → All P gs → length (joined (map (framed t) (map bytes gs))) ≤ 2048 → All (Sound t) (map bytes gs)
+  pub sound_all : {G : Type 0} (bytes : G → List ℕ) (P : G → Type 0) → ((g : G) → P g → 4 + length (bytes g) ≤ 2048 → Sound t (bytes g)) → (gs : List G) → AllByRecursion P gs → length (joined (map (framed t) (map bytes gs))) ≤ 2048 → AllByRecursion (Sound t) (map bytes gs)
   sound_all bytes P f [] a l = tt
   sound_all bytes P f (g ∷ gs) a l =
       let n = framed_longer (bytes g) (map bytes gs) in

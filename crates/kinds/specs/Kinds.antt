@@ -1,6 +1,6 @@
 -- What a kind of instance can do, and the laws that bind every kind. Assumes nothing.
 use Rattle.std.specs.Prelude.{◌≡◌, ℕ, ◌-◌, ◌^◌, ◌<◌, Bool, true, List, length, Some, Option, ◌==◌}
-use Rattle.std.specs.List.{AllByRecursion as All}
+use Rattle.std.specs.List.{AllByRecursion}
 use Rattle.kinds.specs.declared.rank.Rank.{Rank}
 use Rattle.kinds.specs.declared.rank.Rank.TheVariants.{Same, Higher}
 use Rattle.kinds.specs.Ranks.{WeakOrder}
@@ -25,7 +25,7 @@ abbrev pub is_expired : {I : Type 0} → Operations I → I → Bool
 is_expired ops x = ops.left x == 0
 
 abbrev pub EightBytes : List ℕ → Type 0
-EightBytes bs = (length bs ≡ 8) × All (λ b. b < 256) bs
+EightBytes bs = (length bs ≡ 8) × AllByRecursion (λ b. b < 256) bs
 
 pub record Laws {I : Type 0} (ops : Operations I) : Type 0 where
   pub order : WeakOrder ops.rank

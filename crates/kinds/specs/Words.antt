@@ -2,7 +2,7 @@
 use Rattle.std.specs.Prelude.{◌≡◌, ℕ, ◌/◌, ◌%◌, ◌^◌, ◌<◌, List, [], ◌∷◌, length, refl}
 use Rattle.std.proofs.Common.{ap, sym, ◌∙◌, arith}
 use Rattle.std.proofs.Math.Nat.{div-div-eq-div-mul}
-use Rattle.std.specs.List.{AllByRecursion as All}
+use Rattle.std.specs.List.{AllByRecursion}
 use Rattle.kinds.specs.BigEndian.{read16, read32, at16, at32, write16, write32}
 use Rattle.kinds.specs.Kinds.{EightBytes}
 
@@ -40,10 +40,10 @@ bytes32 a b c d rest i j k l =
 low_byte : (n : ℕ) → n % 256 < 256
 low_byte n = omega arith
 
-pub all16 : (n : ℕ) (rest : List ℕ) → All (λ b. b < 256) rest → All (λ b. b < 256) (write16 n rest)
+pub all16 : (n : ℕ) (rest : List ℕ) → AllByRecursion (λ b. b < 256) rest → AllByRecursion (λ b. b < 256) (write16 n rest)
 all16 n rest h = (low_byte (n / 256), (low_byte n, h))
 
-all32 : (n : ℕ) (rest : List ℕ) → All (λ b. b < 256) rest → All (λ b. b < 256) (write32 n rest)
+all32 : (n : ℕ) (rest : List ℕ) → AllByRecursion (λ b. b < 256) rest → AllByRecursion (λ b. b < 256) (write32 n rest)
 all32 n rest h = (low_byte (n / 16777216), (low_byte (n / 65536), (low_byte (n / 256), (low_byte n, h))))
 
 -- a list of eight is its eight elements
@@ -60,7 +60,7 @@ eight P k (a ∷ b ∷ c ∷ d ∷ f ∷ g ∷ h ∷ i ∷ []) e = k a b c d f g
 eight P k (a ∷ b ∷ c ∷ d ∷ f ∷ g ∷ h ∷ i ∷ j ∷ rest) e = absurd (omega arith)
 
 abbrev pub Bytes : List ℕ → Type 0
-Bytes = All (λ b. b < 256)
+Bytes = AllByRecursion (λ b. b < 256)
 
 -- eight bytes that are laid out as a number of four bytes and two of two
 abbrev pub write_words : ℕ → ℕ → ℕ → List ℕ

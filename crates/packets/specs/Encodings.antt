@@ -1,6 +1,6 @@
 -- The bytes of a packet, from what it says. Assumes nothing.
 use Rattle.std.specs.Prelude.{◌≡◌, ℕ, ◌+◌, ◌%◌, ◌^◌, ◌<◌, ◌≤◌, List, [], ◌∷◌, ◌++◌, map, length}
-use Rattle.std.specs.List.{AllByRecursion as All}
+use Rattle.std.specs.List.{AllByRecursion}
 use Rattle.kinds.specs.BigEndian.{write16, write32}
 use Rattle.packets.specs.declared.acknowledgement.Acknowledged.{Acknowledged}
 use Rattle.packets.specs.declared.layout.PacketType.{PacketType}
@@ -94,22 +94,22 @@ pub record DescriptionFits (d : Description) : Type 0 where
 
 pub record AcknowledgedFits (g : AcknowledgedGroup) : Type 0 where
   pub node : length g.node ≡ 22
-  pub entries : All EntryFits g.entries
+  pub entries : AllByRecursion EntryFits g.entries
 
 pub record DescribedFits (g : DescribedGroup) : Type 0 where
   pub node : length g.node ≡ 22
   pub group : length g.group ≡ 14
-  pub entries : All DescriptionFits g.entries
+  pub entries : AllByRecursion DescriptionFits g.entries
 
 pub record RequestedFits (g : RequestedGroup) : Type 0 where
   pub node : length g.node ≡ 22
-  pub numbers : All (λ n. n < 2 ^ 32) g.numbers
+  pub numbers : AllByRecursion (λ n. n < 2 ^ 32) g.numbers
 
 abbrev pub SaidFits : Said → Type 0
-SaidFits (bundle n g es) = (length n ≡ 22) × ((length g ≡ 14) × All ElementFits es)
-SaidFits (acknowledgement gs) = All AcknowledgedFits gs
-SaidFits (summary f d gs) = (f < 2 ^ 16) × ((d < 2 ^ 32) × All DescribedFits gs)
-SaidFits (request gs) = All RequestedFits gs
+SaidFits (bundle n g es) = (length n ≡ 22) × ((length g ≡ 14) × AllByRecursion ElementFits es)
+SaidFits (acknowledgement gs) = AllByRecursion AcknowledgedFits gs
+SaidFits (summary f d gs) = (f < 2 ^ 16) × ((d < 2 ^ 32) × AllByRecursion DescribedFits gs)
+SaidFits (request gs) = AllByRecursion RequestedFits gs
 
 -- each field in the range of its layout, and the whole within a packet's length
 pub record Fits (p : PacketView) : Type 0 where
