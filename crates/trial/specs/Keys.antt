@@ -1,5 +1,4 @@
 -- How two editions rank by one key alone. Assumes nothing.
-use Rattle.std.specs.Prelude.{eqb}
 use Rattle.kinds.specs.declared.cache.Cache.{Cache}
 use Rattle.kinds.specs.declared.rank.Rank.{Rank}
 use Rattle.kinds.specs.declared.rank.Rank.TheVariants.{Same}

@@ -100,7 +100,7 @@ fn group_fault(fault: GroupFault) -> &'static str {
     match fault {
         GroupFault::Cut => "group-cut",
         GroupFault::Type => "group-type",
-        GroupFault::Short => "group_short",
+        GroupFault::Short => "group-short",
         GroupFault::Long => "group-long",
         GroupFault::Body => "body",
         GroupFault::Count => "count",

@@ -17,24 +17,28 @@ mod state;
 mod table;
 mod words;
 
+use anyhow::anyhow;
 use capture::Style;
 use scripts::Layout;
+use std::process::ExitCode;
 use std::{env, fs, io};
 
 const USAGE: &str = "usage: trial editions [FILE] | trial packets [--plain] [FILE]";
 
-fn main(rt: HostRuntime) -> anyhow::Result<()> {
-    let outcome = run(&rt);
-    if let Err(error) = &outcome {
-        eprintln!(rt; "trial: {error}")?;
+fn main(rt: HostRuntime) -> ExitCode {
+    match run(&rt) {
+        Ok(()) => ExitCode::SUCCESS,
+        Err(error) => {
+            let _ = eprintln!(rt; "trial: {error}");
+            ExitCode::FAILURE
+        }
     }
-    outcome
 }
 
 fn run(rt: &HostRuntime) -> anyhow::Result<()> {
     let mut words = env::args(rt)?.skip(1);
     let Some(task) = words.next() else {
-        return Err(USAGE.into());
+        return Err(anyhow!("{USAGE}"));
     };
     let mut file = words.next();
     let mut style = Style::Words;
@@ -43,14 +47,18 @@ fn run(rt: &HostRuntime) -> anyhow::Result<()> {
         file = words.next();
     }
     if words.next().is_some() {
-        return Err(USAGE.into());
+        return Err(anyhow!("{USAGE}"));
     }
     match (task.as_str(), style) {
         ("editions", Style::Words) => editions::report(rt, text(rt, file)?.as_str()),
         ("packets", _) => capture::report(rt, style, text(rt, file)?.as_str()),
-        ("--csv", Style::Words) => scripts::play(rt, Layout::Csv, script(rt, file)?.as_str()),
-        ("--table", Style::Words) => scripts::play(rt, Layout::Table, script(rt, file)?.as_str()),
-        _ => Err(USAGE.into()),
+        ("--csv", Style::Words) => scripts::play(rt, Layout::Csv, script_text(rt, file)?.as_str()),
+        ("--table", Style::Words) => scripts::play(
+            rt,
+            Layout::Table,
+            script_text(rt, file)?.as_str(),
+        ),
+        _ => Err(anyhow!("{USAGE}")),
     }
 }
 
@@ -63,9 +71,9 @@ fn text(rt: &HostRuntime, file: Option<String>) -> io::Result<String> {
 }
 
 // The same for a script, which no option may follow.
-fn script(rt: &HostRuntime, file: Option<String>) -> anyhow::Result<String> {
+fn script_text(rt: &HostRuntime, file: Option<String>) -> anyhow::Result<String> {
     if matches!(&file, Some(word) if word.as_str().starts_with('-')) {
-        return Err(USAGE.into());
+        return Err(anyhow!("{USAGE}"));
     }
     Ok(text(rt, file)?)
 }
