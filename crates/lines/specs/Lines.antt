@@ -49,7 +49,7 @@ abbrev pub some_owed : List Line → ℕ → Bool
 some_owed lines p = some_where (λ l. has l.owed p) lines
 
 abbrev pub with_marks : Line → PlaceSet → List SendCount → PlaceSet → PlaceSet → Line
-with_marks l owed counts to-tell told = record {
+with_marks l owed counts to_tell told = record {
   state = l.state;
   neighbour = l.neighbour;
   ds_number = l.ds_number;
@@ -58,7 +58,7 @@ with_marks l owed counts to-tell told = record {
   summary = l.summary;
   owed = owed;
   counts = counts;
-  to_tell = to-tell;
+  to_tell = to_tell;
   told = told;
 }
 

@@ -105,7 +105,7 @@ taking ps l =
 
 -- loading once the exchange is done; until then as the role says
 abbrev pub loading_or : (Line → Line) → ℕ → Line → Line
-loading_or Going-on flags l = cond (is_done flags l.summary) (with_state Loading l) (Going-on l)
+loading_or going_on flags l = cond (is_done flags l.summary) (with_state Loading l) (going_on l)
 
 -- the slave writes its next summary now, of these places and under the number of the accepted one; the master's is due
 -- unless the exchange is done
