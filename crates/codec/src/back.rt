@@ -88,8 +88,8 @@ fn begin(packet: &Packet<'_>, buffer: &mut [u8]) -> Result<Open, HeaderFault>
             &bundle.group.bytes,
         ),
         Content::Summary(summary) => {
-            let [f0, f1] = summary.flags.to_be_bytes();
-            let [d0, d1, d2, d3] = summary.ds_number.to_be_bytes();
+            let [f0, f1] = summary.head.flags.to_be_bytes();
+            let [d0, d1, d2, d3] = summary.head.ds_number.to_be_bytes();
             Open::begin(
                 buffer,
                 of,

@@ -43,7 +43,7 @@ groups_of (request bs) = bs
 abbrev pub raw : Content → Raw
 raw (rust.Bundle b) = bundle b.node.bytes b.group.bytes b.groups.now
 raw (rust.Acknowledgement bs) = acknowledgement bs.now
-raw (rust.Summary s) = summary s.flags s.ds_number s.groups.now
+raw (rust.Summary s) = summary s.head.flags s.head.ds_number s.groups.now
 raw (rust.Request bs) = request bs.now
 
 abbrev pub viewed_part : Option Content → Option Raw

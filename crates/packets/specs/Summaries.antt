@@ -13,7 +13,7 @@ pub record SummaryView : Type 0 where
 
 abbrev pub viewed_summary : Option Summary → Option SummaryView
 viewed_summary None = None
-viewed_summary (Some s) = Some (record { flags = s.flags; ds_number = s.ds_number; groups = s.groups.now })
+viewed_summary (Some s) = Some (record { flags = s.head.flags; ds_number = s.head.ds_number; groups = s.groups.now })
 
 -- flags, two reserved bytes, DS number, then the groups
 abbrev pub summary_of : List ℕ → Option SummaryView

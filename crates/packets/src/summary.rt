@@ -10,10 +10,16 @@ pub const MORE: u16 = 0x4000;
 
 pub const MASTER: u16 = 0x2000;
 
-#[derive(Clone, Copy)]
-pub struct Summary<'a> {
+// What a summary says before its groups; one with the head of the last is that one, sent again.
+#[derive(Clone, Copy, PartialEq, Eq)]
+pub struct SummaryHead {
     pub flags: u16,
     pub ds_number: u32,
+}
+
+#[derive(Clone, Copy)]
+pub struct Summary<'a> {
+    pub head: SummaryHead,
     pub groups: &'a [u8],
 }
 
@@ -41,8 +47,7 @@ impl<'a> Summary<'a> {
         let flags = u16::from_be_bytes([*f0, *f1]);
         let ds_number = u32::from_be_bytes([*d0, *d1, *d2, *d3]);
         Some(Summary {
-            flags,
-            ds_number,
+            head: SummaryHead { flags, ds_number },
             groups,
         })
     }
