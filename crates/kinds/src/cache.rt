@@ -47,7 +47,7 @@ impl Kind for Cache {
     fn rank(&self, other: &Cache) -> Rank {
         let sequence = self.sequence.cmp(&other.sequence);
         let expiry = (self.left() == 0).cmp(&(other.left() == 0));
-        Rank::of(sequence.then(expiry))
+        Rank::from(sequence.then(expiry))
     }
 
     fn left(&self) -> u16 {

@@ -11,10 +11,10 @@ pub enum Rank {
     Higher,
 }
 
-impl Rank {
-    pub fn of(order: Ordering) -> Rank
-        ensures { result ≡ rank_of order }
-    {
+impl From<Ordering> for Rank {
+    ghost from_gives = { λ order rank. rank ≡ rank_of order };
+
+    fn from(order: Ordering) -> Rank {
         match order {
             Ordering::Less => Rank::Lower,
             Ordering::Equal => Rank::Same,

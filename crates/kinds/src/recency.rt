@@ -1,6 +1,6 @@
 // Which instance is newest, and what follows one.
 ghost use Rattle.std.specs.Prelude.{◌≡◌, ◌<◌, length, MatchOption};
-ghost use Rattle.kinds.specs.Recency.{Newest, Succeeds, newer_of, newest_of, successor_of};
+ghost use Rattle.kinds.specs.Recency.{Newest, Succeeds, instance_at, newer_of, newest_of, successor_of};
 
 use crate::kind::Kind;
 use crate::rank::Rank;
@@ -39,5 +39,15 @@ pub fn successor<K: Kind>(held: Option<K>, check: u16, time: u16) -> Option<K>
     match held {
         Some(instance) => instance.next(check, time),
         None => Some(K::first(check, time)),
+    }
+}
+
+// The instance at a place of a row. A place past the end holds none, and is given the first, which nothing looks at.
+pub fn instance_at<K: Kind>(row: &[K], place: usize) -> K
+    ensures { result ≡ instance_at K.model row.now place }
+{
+    match row.get(place) {
+        Some(instance) => *instance,
+        None => K::first(0, 0),
     }
 }

@@ -45,7 +45,7 @@ impl Kind for Topology {
         let sequence = self.sequence.cmp(&other.sequence);
         let expiry = (self.left() == 0).cmp(&(other.left() == 0));
         let check = self.check.cmp(&other.check);
-        Rank::of(sequence.then(expiry).then(check))
+        Rank::from(sequence.then(expiry).then(check))
     }
 
     fn left(&self) -> u16 {

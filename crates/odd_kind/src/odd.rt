@@ -58,7 +58,7 @@ impl Kind for Odd {
     fn rank(&self, other: &Odd) -> Rank {
         let boot = self.boot.cmp(&other.boot);
         let key = self.key().cmp(&other.key());
-        Rank::of(boot.then(key))
+        Rank::from(boot.then(key))
     }
 
     fn left(&self) -> u16 {
