@@ -2,6 +2,7 @@
 use Rattle.std.specs.Prelude.{ℕ, cond, Some, None, Option, ◌==◌}
 use Rattle.packets.specs.declared.layout.PacketType.{PacketType}
 use Rattle.packets.specs.declared.layout.PacketType.TheVariants.{Bundle, Acknowledgement, Summary, Request}
+use Rattle.packets.specs.declared.layout.UnknownType.{UnknownType}
 
 abbrev pub number_of : PacketType → ℕ
 number_of Bundle = 2
@@ -13,6 +14,9 @@ abbrev pub type_of : ℕ → Option PacketType
 type_of n =
     cond (n == 2) (Some Bundle)
     (cond (n == 3) (Some Acknowledgement) (cond (n == 4) (Some Summary) (cond (n == 5) (Some Request) None)))
+
+abbrev pub unknown_type : ℕ → UnknownType
+unknown_type n = record { 0 = n }
 
 abbrev pub group_number_of : PacketType → ℕ
 group_number_of Bundle = 64

@@ -2,7 +2,7 @@
 ghost use Rattle.std.specs.Prelude.{◌≡◌};
 ghost use Rattle.packets.specs.Headers.{header_of};
 
-use crate::layout::PacketType;
+use crate::layout::{PacketType, UnknownType};
 
 #[derive(Clone, Copy)]
 pub struct Header {
@@ -53,9 +53,9 @@ pub fn read_header(packet: &[u8]) -> Result<Header, HeaderFault>
     if *version != 1 {
         return Err(HeaderFault::Version);
     }
-    let Some(packet_type) = PacketType::of(u16::from_be_bytes([*type_high, *type_low])) else {
-        return Err(HeaderFault::Type);
-    };
+    let packet_type = PacketType::try_from(u16::from_be_bytes([*type_high, *type_low])).map_err(
+        |UnknownType(_)| HeaderFault::Type,
+    )?;
     Ok(Header {
         packet_type,
         newest: *newest,

@@ -1,6 +1,7 @@
 // The packet types, with the numbers and sizes of their layouts.
 ghost use Rattle.std.specs.Prelude.{◌≡◌};
-ghost use Rattle.packets.specs.Layouts.{group_fixed_of, group_number_of, number_of, type_of};
+ghost use Rattle.std.specs.Option.{ok_or};
+ghost use Rattle.packets.specs.Layouts.{group_fixed_of, group_number_of, number_of, type_of, unknown_type};
 
 #[derive(Clone, Copy)]
 pub enum PacketType {
@@ -10,30 +11,40 @@ pub enum PacketType {
     Request,
 }
 
-impl PacketType {
-    pub fn of(number: u16) -> Option<PacketType>
-        ensures { result ≡ type_of number }
-    {
+// A number that is no packet's type.
+#[derive(Clone, Copy, PartialEq, Eq)]
+pub struct UnknownType(pub u16);
+
+impl TryFrom<u16> for PacketType {
+    type Error = UnknownType;
+
+    ghost try_from_gives = { λ number r. r ≡ ok_or (type_of number) (unknown_type number) };
+
+    fn try_from(number: u16) -> Result<Self, UnknownType> {
         match number {
-            2 => Some(PacketType::Bundle),
-            3 => Some(PacketType::Acknowledgement),
-            4 => Some(PacketType::Summary),
-            5 => Some(PacketType::Request),
-            _ => None,
+            2 => Ok(PacketType::Bundle),
+            3 => Ok(PacketType::Acknowledgement),
+            4 => Ok(PacketType::Summary),
+            5 => Ok(PacketType::Request),
+            _ => Err(UnknownType(number)),
         }
     }
+}
 
-    pub fn number(self) -> u16
-        ensures { result ≡ number_of self }
-    {
-        match self {
+impl From<PacketType> for u16 {
+    ghost from_gives = { λ of number. number ≡ number_of of };
+
+    fn from(of: PacketType) -> u16 {
+        match of {
             PacketType::Bundle => 2,
             PacketType::Acknowledgement => 3,
             PacketType::Summary => 4,
             PacketType::Request => 5,
         }
     }
+}
 
+impl PacketType {
     pub fn group_number(self) -> u16
         ensures { result ≡ group_number_of self }
     {

@@ -46,7 +46,7 @@ impl Open {
         if !fits(0, buffer, 8, first, second, &[]) {
             return Err(HeaderFault::Long);
         }
-        let [high, low] = of.number().to_be_bytes();
+        let [high, low] = u16::from(of).to_be_bytes();
         append(
             buffer,
             0,
