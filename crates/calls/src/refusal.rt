@@ -19,11 +19,11 @@ pub enum Refusal {
     NotHeld,
 }
 
-impl Refusal {
-    pub fn number(&self) -> u8
-        ensures { result ≡ refusal_number self.now }
-    {
-        match self {
+impl From<Refusal> for u8 {
+    ghost from_gives = { λ refusal number. number ≡ refusal_number refusal };
+
+    fn from(refusal: Refusal) -> u8 {
+        match refusal {
             Refusal::RowLength => 1,
             Refusal::LineNumber => 2,
             Refusal::LineState => 3,
