@@ -10,37 +10,18 @@ pub fn find_in(places: &[Option<Element>], name: &Name) -> Option<usize>
     ensures place { result ≡ place_of places.now name.now }
     ensures first { First (is_named name.now) places.now result }
 {
-    for (place, held) in places.iter().enumerate() {
-        if is_named(held, name) {
-            return Some(place);
-        }
-    }
-    None
+    places.iter().position(|held| is_named(held, name))
 }
 
 fn is_named(held: &Option<Element>, name: &Name) -> bool
     ensures { result ≡ is_named name.now held.now }
 {
-    match held {
-        Some(element) => element.name.same(name),
-        None => false,
-    }
+    held.as_ref().is_some_and(|element| element.name.same(name))
 }
 
 pub fn free_in<T: Copy>(places: &[Option<T>]) -> Option<usize>
     ensures place { result ≡ free_place places.now }
     ensures first { First is_free places.now result }
 {
-    for (place, held) in places.iter().enumerate() {
-        if is_free(held) {
-            return Some(place);
-        }
-    }
-    None
-}
-
-fn is_free<T: Copy>(held: &Option<T>) -> bool
-    ensures { result ≡ is_free held.now }
-{
-    held.is_none()
+    places.iter().position(|held| held.is_none())
 }
