@@ -1,3 +1,3 @@
-pub mod PlaceListLaws
+pub mod ListLaws
 pub mod PlaceSetLaws
 pub mod StoreLaws

@@ -1,4 +1,5 @@
 pub mod BodyStores
+pub mod Lists
 pub mod PlaceLists
 pub mod PlaceSets
 pub mod SendCounts

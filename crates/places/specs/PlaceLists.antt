@@ -1,10 +1,5 @@
 -- Lists of places. Assumes nothing.
-use Rattle.std.specs.Prelude.{ℕ, min, Bool, cond, ◌&&◌, List, [], ◌∷◌, ◌++◌, length, take, nat_lt}
-use Rattle.places.specs.declared.list.PlaceList.{PlaceList}
-
--- the places in a list, in order
-abbrev pub listed : PlaceList → List ℕ
-listed l = take l.count l.places
+use Rattle.std.specs.Prelude.{ℕ, min, Bool, cond, ◌&&◌, List, [], ◌∷◌, ◌++◌, length, nat_lt}
 
 -- a place that passes comes last, as long as there are fewer than the limit and than 64
 abbrev pub kept : List ℕ → ℕ → Bool → ℕ → List ℕ

@@ -1,47 +1,69 @@
-// Places in order, at most 64.
-ghost use Rattle.std.specs.Prelude.{◌≡◌, ◌≤◌, true, [], length};
-ghost use Rattle.places.specs.PlaceLists.{kept, listed};
+// A list of at most N items, in fixed memory.
+ghost use Rattle.std.specs.Prelude.{◌≡◌, ◌≤◌, [], ⊤};
 
-#[derive(Clone, Copy)]
-pub struct PlaceList {
-    places: [usize; 64],
+use std::alloc::AllocError;
+
+pub struct List<T, const N: usize> {
+    items: [T; N],
     count: usize,
+    ghost within: { count ≤ N },
 }
 
-impl PlaceList {
-    pub fn new() -> PlaceList
+impl<T: Copy, const N: usize> Copy for List<T, N> {}
+
+impl<T: Copy, const N: usize> Clone for List<T, N> {
+    ghost is_clone = { λ l copy. copy ≡ l };
+
+    ghost is_infallible = { λ _. ⊤ };
+
+    fn clone(&self) -> Result<List<T, N>, AllocError> {
+        Ok(*self)
+    }
+}
+
+// Places in order, at most 64.
+pub type PlaceList = List<usize, 64>;
+
+impl<T: Copy, const N: usize> List<T, N> {
+    ghost use Rattle.places.specs.Lists.{listed, pushed};
+
+    // Without items; the blank fills the memory that no item has.
+    pub fn new(blank: T) -> List<T, N>
         ensures { listed result ≡ [] }
     {
-        PlaceList {
-            places: [0; 64],
+        List {
+            items: [blank; N],
             count: 0,
         }
     }
+
+    // The item comes last; a full list stays as it is.
+    pub fn push(&mut self, item: T)
+        ensures { listed self.new ≡ pushed N (listed self.old) item }
+    {
+        if self.count < N {
+            self.items[self.count] = item;
+            self.count += 1;
+        }
+    }
+
+    pub fn as_slice(&self) -> &[T]
+        ensures { result.now ≡ listed self.now }
+    {
+        &self.items[..self.count]
+    }
+}
+
+impl List<usize, 64> {
+    ghost use Rattle.places.specs.Lists.{listed};
+    ghost use Rattle.places.specs.PlaceLists.{kept};
 
     // Adds a place that passes, as long as there are fewer than the limit and than 64.
     pub fn keep(&mut self, place: usize, passes: bool, limit: usize)
         ensures { listed self.new ≡ kept (listed self.old) place passes limit }
     {
-        if passes {
-            self.push(place, limit);
+        if passes && self.count < limit {
+            self.push(place);
         }
-    }
-
-    fn push(&mut self, place: usize, limit: usize)
-        ensures { listed self.new ≡ kept (listed self.old) place true limit }
-    {
-        if self.count < limit.min(64) {
-            self.places[self.count] = place;
-            self.count += 1;
-        }
-    }
-
-    pub fn as_slice(&self) -> &[usize]
-        ensures { result.now ≡ listed self.now }
-    {
-        if self.count >= 64 {
-            return &self.places;
-        }
-        &self.places[0..self.count]
     }
 }
