@@ -1,8 +1,8 @@
 -- The neighbour machine: what a summary is to a line, and what follows from state and event. Assumes nothing.
 use Rattle.std.specs.Prelude.{ℕ, Bool, true, false, cond, not, ◌&&◌, Some, None, Option, ◌==◌, bit_and}
 use Rattle.packets.specs.declared.ids.NodeId.{NodeId}
+use Rattle.packets.specs.declared.summary.SummaryHead.{SummaryHead}
 use Rattle.packets.specs.Ids.{larger_node}
-use Rattle.lines.specs.declared.line.Accepted.{Accepted}
 use Rattle.lines.specs.declared.line.Line.{Line}
 use Rattle.lines.specs.declared.line.Role.{Role}
 use Rattle.lines.specs.declared.line.Role.TheVariants.{Master, Slave}
@@ -41,7 +41,7 @@ abbrev pub while_negotiating : NodeId → Line → ℕ → ℕ → Bool → Summ
 while_negotiating own l flags ds groups = cond (to_slave own l flags groups) MakesSlave (cond (to_master own l flags ds) MakesMaster Other)
 
 -- all 16 flag bits and the DS number of the last accepted summary
-abbrev pub repeats : Option Accepted → ℕ → ℕ → Bool
+abbrev pub repeats : Option SummaryHead → ℕ → ℕ → Bool
 repeats None flags ds = false
 repeats (Some a) flags ds = a.flags == flags && a.ds_number == ds
 

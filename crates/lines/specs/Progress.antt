@@ -1,10 +1,10 @@
 -- How far an exchange has come on a line. Assumes nothing.
 use Rattle.std.specs.Prelude.{ℕ, Bool, true, false, cond, not, ◌&&◌, ◌||◌, List, [], ◌∷◌, Some, Option, ◌==◌, bit_and, slice_set}
+use Rattle.packets.specs.declared.summary.SummaryHead.{SummaryHead}
 use Rattle.places.specs.declared.set.PlaceSet.{PlaceSet}
 use Rattle.places.specs.declared.count.SendCount.{SendCount}
 use Rattle.places.specs.PlaceSets.{no_places, with_place, without_place}
 use Rattle.places.specs.SendCounts.{sent_count}
-use Rattle.lines.specs.declared.line.Accepted.{Accepted}
 use Rattle.lines.specs.declared.line.Line.{Line}
 use Rattle.lines.specs.declared.line.OwnSummary.{OwnSummary}
 use Rattle.lines.specs.declared.line.Role.{Role}
@@ -13,7 +13,7 @@ use Rattle.lines.specs.declared.line.State.{State}
 use Rattle.lines.specs.declared.line.State.TheVariants.{Exchanging, Loading}
 use Rattle.lines.specs.Lines.{following, initial_summary, with_marks, with_state}
 
-abbrev pub with_progress : Line → State → ℕ → Role → Option Accepted → Line
+abbrev pub with_progress : Line → State → ℕ → Role → Option SummaryHead → Line
 with_progress l state ds role accepted = record {
   state = state;
   neighbour = l.neighbour;

@@ -1,5 +1,6 @@
 // One line and the neighbour on it.
 use packets::ids::NodeId;
+use packets::summary::SummaryHead;
 use places::count::SendCount;
 use places::set::PlaceSet;
 
@@ -18,13 +19,6 @@ pub enum Role {
     Slave,
 }
 
-// What a duplicate of the last accepted summary is known by.
-#[derive(Clone, Copy)]
-pub struct Accepted {
-    pub flags: u16,
-    pub ds_number: u32,
-}
-
 // Our own summary under the line's DS number.
 #[derive(Clone, Copy)]
 pub struct OwnSummary {
@@ -39,7 +33,8 @@ pub struct Line {
     pub neighbour: NodeId,
     pub ds_number: u32,
     pub role: Role,
-    pub accepted: Option<Accepted>,
+    // The last accepted summary, by which its duplicate is known.
+    pub accepted: Option<SummaryHead>,
     pub summary: OwnSummary,
     // The retransmission list: an entry or a call of the neighbour adds, its showing removes.
     pub owed: PlaceSet,

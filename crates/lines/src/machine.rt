@@ -5,7 +5,7 @@ ghost use Rattle.lines.specs.Progress.{begun};
 
 use crate::line::{Line, OwnSummary, Role, State};
 use packets::ids::NodeId;
-use packets::summary::{INITIALIZE, MASTER, MORE};
+use packets::summary::{INITIALIZE, MASTER, MORE, SummaryHead};
 use places::set::PlaceSet;
 
 // What a summary is to the line on which it comes; of a duplicate, the role in which we get it.
@@ -28,30 +28,22 @@ pub enum Reaction {
 }
 
 impl Line {
-    pub fn event(&self, own: &NodeId, flags: u16, ds_number: u32, has_groups: bool) -> SummaryEvent
-        ensures { result ≡ event_of own.now self.now flags ds_number has_groups }
+    pub fn event(&self, own: &NodeId, head: SummaryHead, has_groups: bool) -> SummaryEvent
+        ensures { result ≡ event_of own.now self.now head.flags head.ds_number has_groups }
     {
         match self.state {
             State::Down => SummaryEvent::Other,
-            State::Negotiating => self.negotiation_event(own, flags, ds_number, has_groups),
-            State::Exchanging | State::Loading | State::Full => {
-                self.later_event(flags, ds_number)
-            }
+            State::Negotiating => self.negotiation_event(own, head, has_groups),
+            State::Exchanging | State::Loading | State::Full => self.later_event(head),
         }
     }
 
-    fn negotiation_event(
-        &self,
-        own: &NodeId,
-        flags: u16,
-        ds_number: u32,
-        has_groups: bool,
-    ) -> SummaryEvent
-        ensures { result ≡ while_negotiating own.now self.now flags ds_number has_groups }
+    fn negotiation_event(&self, own: &NodeId, head: SummaryHead, has_groups: bool) -> SummaryEvent
+        ensures { result ≡ while_negotiating own.now self.now head.flags head.ds_number has_groups }
     {
-        if self.makes_slave(own, flags, has_groups) {
+        if self.makes_slave(own, head.flags, has_groups) {
             SummaryEvent::MakesSlave
-        } else if self.makes_master(own, flags, ds_number) {
+        } else if self.makes_master(own, head) {
             SummaryEvent::MakesMaster
         } else {
             SummaryEvent::Other
@@ -70,23 +62,23 @@ impl Line {
     }
 
     // Without Initialize and Master, under our own number, from a smaller node.
-    fn makes_master(&self, own: &NodeId, flags: u16, ds_number: u32) -> bool
-        ensures { result ≡ to_master own.now self.now flags ds_number }
+    fn makes_master(&self, own: &NodeId, head: SummaryHead) -> bool
+        ensures { result ≡ to_master own.now self.now head.flags head.ds_number }
     {
-        flags & INITIALIZE == 0
-            && flags & MASTER == 0
-            && ds_number == self.ds_number
+        head.flags & INITIALIZE == 0
+            && head.flags & MASTER == 0
+            && head.ds_number == self.ds_number
             && own.is_larger(&self.neighbour)
     }
 
-    fn later_event(&self, flags: u16, ds_number: u32) -> SummaryEvent
-        ensures { result ≡ past_negotiation self.now flags ds_number }
+    fn later_event(&self, head: SummaryHead) -> SummaryEvent
+        ensures { result ≡ past_negotiation self.now head.flags head.ds_number }
     {
-        if self.repeats(flags, ds_number) {
+        if self.repeats(head) {
             return SummaryEvent::Duplicate(self.role);
         }
-        let right = self.role.is_right_master(flags);
-        if right && flags & INITIALIZE == 0 && ds_number == self.awaited() {
+        let right = self.role.is_right_master(head.flags);
+        if right && head.flags & INITIALIZE == 0 && head.ds_number == self.awaited() {
             SummaryEvent::InSequence
         } else {
             SummaryEvent::Wrong
@@ -94,13 +86,10 @@ impl Line {
     }
 
     // All 16 flag bits and the DS number of the last accepted summary.
-    fn repeats(&self, flags: u16, ds_number: u32) -> bool
-        ensures { result ≡ repeats self.now.accepted flags ds_number }
+    fn repeats(&self, head: SummaryHead) -> bool
+        ensures { result ≡ repeats self.now.accepted head.flags head.ds_number }
     {
-        match self.accepted {
-            Some(accepted) => accepted.flags == flags && accepted.ds_number == ds_number,
-            None => false,
-        }
+        self.accepted == Some(head)
     }
 
     // The master is answered under its number, the slave is asked under the one that follows.

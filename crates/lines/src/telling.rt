@@ -2,9 +2,9 @@
 ghost use Rattle.std.specs.Prelude.{◌≡◌};
 ghost use Rattle.lines.specs.Progress.{accepted_with, is_done, loading_or, next_due, remembered, sent_again, sent_counts, sent_on, taking, with_each, without_each};
 
-use crate::line::{Accepted, Line, OwnSummary, Role, State};
+use crate::line::{Line, OwnSummary, Role, State};
 use crate::marks::put;
-use packets::summary::MORE;
+use packets::summary::{MORE, SummaryHead};
 use places::count::SendCount;
 use places::set::PlaceSet;
 
@@ -30,20 +30,20 @@ impl Line {
     }
 
     // The descriptions of an accepted summary have counted. A slave's next summary takes these places.
-    pub fn accept(&mut self, flags: u16, ds_number: u32, chosen: &[usize])
-        ensures { self.new ≡ accepted_with chosen.now flags ds_number self.old }
+    pub fn accept(&mut self, head: SummaryHead, chosen: &[usize])
+        ensures { self.new ≡ accepted_with chosen.now head.flags head.ds_number self.old }
     {
-        self.remember(flags, ds_number);
+        self.remember(head);
         match self.role {
             Role::Slave => {
-                self.ds_number = ds_number;
+                self.ds_number = head.ds_number;
                 self.tell(chosen);
-                if self.is_done(flags) {
+                if self.is_done(head.flags) {
                     self.state = State::Loading;
                 }
             }
             Role::Master => {
-                if self.is_done(flags) {
+                if self.is_done(head.flags) {
                     self.state = State::Loading;
                 } else {
                     self.make_next_due();
@@ -52,10 +52,10 @@ impl Line {
         }
     }
 
-    fn remember(&mut self, flags: u16, ds_number: u32)
-        ensures { self.new ≡ remembered flags ds_number self.old }
+    fn remember(&mut self, head: SummaryHead)
+        ensures { self.new ≡ remembered head.flags head.ds_number self.old }
     {
-        self.accepted = Some(Accepted { flags, ds_number });
+        self.accepted = Some(head);
         self.told = PlaceSet::empty();
     }
 
