@@ -1,7 +1,8 @@
 -- Steps of loops over a table, and what a search finds. Assumes nothing.
-use Rattle.std.proofs.Common.{◌≡◌, ℕ, zero, suc, ◌+◌, ◌<◌, ◌≤◌, Bool, true, false, cond, List, [], ◌∷◌, ◌++◌, length, get_or, take, drop, set, Some, None, Option, sym, refl, ap, ◌∙◌, subst, add-one, arith, take_all, MatchOption}
-use Rattle.std.proofs.lemmas.List.{append-nil, at_drop_more, at_drop_all, drop_all}
-use Rattle.std.proofs.lemmas.Bool.{cond-true, cond-false}
+use Rattle.std.proofs.Common.{◌≡◌, ℕ, zero, suc, ◌+◌, ◌<◌, ◌≤◌, Bool, true, false, cond, ◌||◌, List, [], ◌∷◌, ◌++◌, length, get_or, take, drop, set, Some, None, Option, sym, refl, ap, ◌∙◌, subst, add-one, arith, take_all, inl, inr, MatchOption}
+use Rattle.std.proofs.lemmas.List.{append-nil, at_drop_more, at_drop_all, drop_all, set_past}
+use Rattle.std.proofs.lemmas.Bool.{cases_lt, cond-true, cond-false}
+use Rattle.std.specs.List.{list_any}
 use Rattle.lines.specs.Tables.{first_where, some_where, First, map_from, by_place, in_turn}
 
 module _ {X : Type 0} (p : X → Bool) (xs : List X) (i : ℕ) where
@@ -14,14 +15,22 @@ module _ {X : Type 0} (p : X → Bool) (xs : List X) (i : ℕ) where
   pub first_none : length xs ≤ i → first_where p i (drop i xs) ≡ first_where p 0 xs → None ≡ first_where p 0 xs
   first_none le inv = sym (at_drop_all (first_where p i) xs i le) ∙ inv
 
-  pub some_here : (d : X) → i < length xs → true ≡ p (get_or xs i d) → some_where p (drop i xs) ≡ some_where p xs → true ≡ some_where p xs
-  some_here d lt h inv = sym (at_drop_more (some_where p) xs i d lt ∙ cond-true _ _ _ (sym h)) ∙ inv
+or_is : (b : Bool) {m n : Bool} → m ≡ n → (b || m) ≡ cond b true n
+or_is true e = refl
+or_is false e = e
 
-  pub some_more : (d : X) → i < length xs → false ≡ p (get_or xs i d) → some_where p (drop i xs) ≡ some_where p xs → some_where p (drop (i + 1) xs) ≡ some_where p xs
-  some_more d lt h inv = sym (at_drop_more (some_where p) xs i d lt ∙ cond-false _ _ _ (sym h)) ∙ inv
+-- `any` finds whether a record passes
+pub list_any_is : {X : Type 0} (p : X → Bool) (xs : List X) → list_any p xs ≡ some_where p xs
+list_any_is p [] = refl
+list_any_is p (x ∷ xs) = or_is (p x) (list_any_is p xs)
 
-  pub some_none : length xs ≤ i → some_where p (drop i xs) ≡ some_where p xs → false ≡ some_where p xs
-  some_none le inv = sym (at_drop_all (some_where p) xs i le) ∙ inv
+-- what stands at a place is changed, and a place past the end changes nothing
+pub changed_at : {X : Type 0} (f : X → X) (xs ys : List X) (i : ℕ) (d : X) → (length xs ≤ i → ys ≡ xs) → (i < length xs → (x : X) × (x ≡ f (get_or xs i d)) × (ys ≡ set xs i x)) → ys ≡ set xs i (f (get_or xs i d))
+changed_at f xs ys i d past within =
+    elim (cases_lt i (length xs)) [
+      | inl l ↦ let w = within l in w.2 ∙ ap (set xs i) w.1
+      | inr l ↦ past l ∙ sym (set_past xs i _ l)
+    ]
 
 module _ {X : Type 0} (p : X → Bool) where
   abbrev None-passes : List X → Type 0

@@ -1,5 +1,6 @@
 // What a line's marks become.
-ghost use Rattle.std.specs.Prelude.{◌≡◌, map, slice_index_or, slice_set};
+ghost use Rattle.std.specs.Prelude.{◌≡◌, ◌<◌, ◌≤◌, length, map, slice_index_or, slice_set};
+ghost use Rattle.std.specs.Fn.{FnOnceReturnsAtMut};
 ghost use Rattle.places.specs.PlaceSets.{has};
 ghost use Rattle.places.specs.SendCounts.{raised};
 ghost use Rattle.lines.specs.Lines.{cleared_line, entered_on, initial_summary, is_down, is_past_negotiation, is_synchronizing, is_with, no_line, owing, negotiating_line, resend_limit, second_line, shown, some_owed, some_synchronizing};
@@ -129,13 +130,23 @@ fn raise_all(counts: &mut [SendCount])
     }
 }
 
+// What stands at the place of a row is changed; a place past the end has nothing to change.
+pub fn change_at<T, F: FnOnce(&mut T)>(row: &mut [T], place: usize, change: F)
+    requires { F.IsAlwaysCallable change }
+    ensures past { length row.old ≤ place → row.new ≡ row.old }
+    ensures within { place < length row.old → (d : T) → (after : T) × FnOnceReturnsAtMut F.FnOnce change (slice_index_or row.old place d) tt after × (row.new ≡ slice_set row.old place after) }
+{
+    // Stays: of a slice's `get_mut` a proof knows no element once the borrow is over.
+    if place < row.len() {
+        change(&mut row[place]);
+    }
+}
+
 // A place past the end has nothing to change.
 pub fn put<T: Copy>(row: &mut [T], place: usize, value: T)
     ensures { row.new ≡ slice_set row.old place value }
 {
-    if place < row.len() {
-        row[place] = value;
-    }
+    change_at(row, place, |held| *held = value);
 }
 
 pub fn enter_all(lines: &mut [Line], place: usize)
@@ -158,49 +169,30 @@ pub fn raise_lines(lines: &mut [Line])
 pub fn is_neighbour(lines: &[Line], neighbour: &NodeId) -> bool
     ensures { result ≡ some_where (is_with neighbour.now) lines.now }
 {
-    for line in lines.iter() {
-        if line.is_with(neighbour) {
-            return true;
-        }
-    }
-    false
+    lines.iter().any(|line| line.is_with(neighbour))
 }
 
 pub fn is_owed(lines: &[Line], place: usize) -> bool
     ensures { result ≡ some_owed lines.now place }
 {
-    for line in lines.iter() {
-        if line.owes(place) {
-            return true;
-        }
-    }
-    false
+    lines.iter().any(|line| line.owes(place))
 }
 
 // Somebody is exchanging or loading.
 pub fn is_any_synchronizing(lines: &[Line]) -> bool
     ensures { result ≡ some_synchronizing lines.now }
 {
-    for line in lines.iter() {
-        if line.state.is_synchronizing() {
-            return true;
-        }
-    }
-    false
+    lines.iter().any(|line| line.state.is_synchronizing())
 }
 
 pub fn clear_line(lines: &mut [Line], line: usize, state: State)
     ensures { lines.new ≡ slice_set lines.old line (cleared_line state (slice_index_or lines.old line no_line)) }
 {
-    if line < lines.len() {
-        lines[line].clear(state);
-    }
+    change_at(lines, line, |cleared| cleared.clear(state));
 }
 
 pub fn negotiate_line(lines: &mut [Line], line: usize, neighbour: NodeId, ds_number: u32)
     ensures { lines.new ≡ slice_set lines.old line (negotiating_line neighbour ds_number (slice_index_or lines.old line no_line)) }
 {
-    if line < lines.len() {
-        lines[line].negotiate(neighbour, ds_number);
-    }
+    change_at(lines, line, |up| up.negotiate(neighbour, ds_number));
 }

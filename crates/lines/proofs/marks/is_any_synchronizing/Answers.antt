@@ -1,12 +1,11 @@
-use Rattle.lines.specs.Lines.{is_synchronizing, no_line}
-use Rattle.lines.proofs.TableLaws.{some_here, some_more, some_none}
+use Rattle.std.proofs.Common.{rules, tests, ◌∙◌}
+use Rattle.std.proofs.lemmas.Iterator.{YieldsList-from_slice}
+use Rattle.std.proofs.lemmas.Iterator.Search.{any_from_yields_List}
+use Rattle.lines.specs.Lines.{is_synchronizing}
+use Rattle.lines.proofs.TableLaws.{list_any_is}
 use Rattle.lines.proofs.marks.is_any_synchronizing.Goals as goal
 
-pub returns-then-is_synchronizing : goal.returns-then-is_synchronizing
-returns-then-is_synchronizing c = some_here (λ x. is_synchronizing x.state) c.args.lines.now c.loop-line.line-index no_line c.loop-line-test.true c.if-is_synchronizing.ensures c.loop-line.invariant
-
-pub loop-line-preserved : goal.loop-line-preserved
-loop-line-preserved c = some_more (λ x. is_synchronizing x.state) c.args.lines.now c.loop-line.line-index no_line c.loop-line-test.true c.if-is_synchronizing.ensures c.loop-line.invariant
-
 pub returns : goal.returns
-returns c = some_none (λ x. is_synchronizing x.state) c.args.lines.now c.loop-line.line-index c.loop-line-test.false c.loop-line.invariant
+returns c =
+    any_from_yields_List (λ l. is_synchronizing l.state) _ _ _ c.any.ensures.ran (YieldsList-from_slice c.args.lines.now (cc)) (λ x b q k. search (rules, tests))
+    ∙ list_any_is (λ l. is_synchronizing l.state) c.args.lines.now

@@ -1,12 +1,11 @@
-use Rattle.lines.specs.Lines.{is_with, no_line}
-use Rattle.lines.proofs.TableLaws.{some_here, some_more, some_none}
+use Rattle.std.proofs.Common.{rules, tests, ◌∙◌}
+use Rattle.std.proofs.lemmas.Iterator.{YieldsList-from_slice}
+use Rattle.std.proofs.lemmas.Iterator.Search.{any_from_yields_List}
+use Rattle.lines.specs.Lines.{is_with}
+use Rattle.lines.proofs.TableLaws.{list_any_is}
 use Rattle.lines.proofs.marks.is_neighbour.Goals as goal
 
-pub returns-then-is_with : goal.returns-then-is_with
-returns-then-is_with c = some_here (is_with c.args.neighbour.now) c.args.lines.now c.loop-line.line-index no_line c.loop-line-test.true c.if-is_with.ensures c.loop-line.invariant
-
-pub loop-line-preserved : goal.loop-line-preserved
-loop-line-preserved c = some_more (is_with c.args.neighbour.now) c.args.lines.now c.loop-line.line-index no_line c.loop-line-test.true c.if-is_with.ensures c.loop-line.invariant
-
 pub returns : goal.returns
-returns c = some_none (is_with c.args.neighbour.now) c.args.lines.now c.loop-line.line-index c.loop-line-test.false c.loop-line.invariant
+returns c =
+    any_from_yields_List (is_with c.args.neighbour.now) _ _ _ c.any.ensures.ran (YieldsList-from_slice c.args.lines.now (cc)) (λ x b q k. search (rules, tests))
+    ∙ list_any_is (is_with c.args.neighbour.now) c.args.lines.now

@@ -1,13 +1,11 @@
+use Rattle.std.proofs.Common.{rules, tests, ◌∙◌}
+use Rattle.std.proofs.lemmas.Iterator.{YieldsList-from_slice}
+use Rattle.std.proofs.lemmas.Iterator.Search.{any_from_yields_List}
 use Rattle.places.specs.PlaceSets.{has}
-use Rattle.lines.specs.Lines.{no_line}
-use Rattle.lines.proofs.TableLaws.{some_here, some_more, some_none}
+use Rattle.lines.proofs.TableLaws.{list_any_is}
 use Rattle.lines.proofs.marks.is_owed.Goals as goal
 
-pub returns-then-owes : goal.returns-then-owes
-returns-then-owes c = some_here (λ x. has x.owed c.args.place) c.args.lines.now c.loop-line.line-index no_line c.loop-line-test.true c.if-owes.ensures c.loop-line.invariant
-
-pub loop-line-preserved : goal.loop-line-preserved
-loop-line-preserved c = some_more (λ x. has x.owed c.args.place) c.args.lines.now c.loop-line.line-index no_line c.loop-line-test.true c.if-owes.ensures c.loop-line.invariant
-
 pub returns : goal.returns
-returns c = some_none (λ x. has x.owed c.args.place) c.args.lines.now c.loop-line.line-index c.loop-line-test.false c.loop-line.invariant
+returns c =
+    any_from_yields_List (λ l. has l.owed c.args.place) _ _ _ c.any.ensures.ran (YieldsList-from_slice c.args.lines.now (cc)) (λ x b q k. search (rules, tests))
+    ∙ list_any_is (λ l. has l.owed c.args.place) c.args.lines.now

@@ -1,6 +1,9 @@
-use Rattle.std.proofs.Common.{sym}
-use Rattle.std.proofs.lemmas.List.{set_past}
+use Rattle.std.proofs.Common.{rules}
+use Rattle.lines.specs.Lines.{negotiating_line, no_line}
+use Rattle.lines.proofs.TableLaws.{changed_at}
 use Rattle.lines.proofs.marks.negotiate_line.Goals as goal
 
-pub returns-else-line-lines : goal.returns-else-line-lines
-returns-else-line-lines c = sym (set_past c.args.lines.now c.args.line _ c.if-line-lines.false)
+pub returns : goal.returns
+returns c =
+    changed_at (negotiating_line c.args.neighbour c.args.ds_number) c.args.lines.now c.change_at.new.row c.args.line no_line c.change_at.ensures.past
+    (λ l. let w = c.change_at.ensures.within l no_line in (w.0, search rules, w.2))

@@ -1,6 +1,8 @@
-use Rattle.std.proofs.Common.{sym}
-use Rattle.std.proofs.lemmas.List.{set_past}
+use Rattle.std.proofs.Common.{rules}
+use Rattle.lines.proofs.TableLaws.{changed_at}
 use Rattle.lines.proofs.marks.put.Goals as goal
 
-pub returns-else-place-row : goal.returns-else-place-row
-returns-else-place-row g c = sym (set_past c.args.row.now c.args.place c.args.value c.if-place-row.false)
+pub returns : goal.returns
+returns g c =
+    changed_at (λ _. c.args.value) c.args.row.now c.change_at.new.row c.args.place c.args.value c.change_at.ensures.past
+    (λ l. let w = c.change_at.ensures.within l c.args.value in (w.0, search rules, w.2))
