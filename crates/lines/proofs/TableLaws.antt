@@ -92,12 +92,3 @@ module _ {S : Type 0} (f : ℕ → S → S) where
   pub in_turn_more : (i : ℕ) (s t u : S) → t ≡ in_turn f i s → u ≡ f i t → u ≡ in_turn f (i + 1) s
   unfolding in_turn
   in_turn_more i s t u e h = rw add-one (h ∙ ap (f i) e)
-
--- a loop that takes the values of a list one after the other
-module _ {X S : Type 0} (run : List X → S → S) (xs : List X) (i : ℕ) where
-  pub each_more : (g : X → S → S) → ((x : X) (ys : List X) (s : S) → run (x ∷ ys) s ≡ run ys (g x s)) → (d : X) (s t u : S) → i < length xs → run (drop i xs) s ≡ u → t ≡ g (get_or xs i d) s → run (drop (i + 1) xs) t ≡ u
-  each_more g step d s t u lt inv e =
-      ap (run (drop (i + 1) xs)) e ∙ sym (step (get_or xs i d) (drop (i + 1) xs) s) ∙ sym (at_drop_more (λ ys. run ys s) xs i d lt) ∙ inv
-
-  pub each_all : ((s : S) → run [] s ≡ s) → (s u : S) → length xs ≤ i → run (drop i xs) s ≡ u → s ≡ u
-  each_all none s u le inv = sym (none s) ∙ sym (at_drop_all (λ ys. run ys s) xs i le) ∙ inv

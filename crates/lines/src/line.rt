@@ -20,6 +20,7 @@ pub enum Role {
 }
 
 // Our own summary under the line's DS number.
+// Stays: `more` is no part of being written; the initial summary, which is due and not written, has More.
 #[derive(Clone, Copy)]
 pub struct OwnSummary {
     pub written: bool,

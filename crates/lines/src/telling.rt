@@ -1,6 +1,6 @@
 // What our summaries and bundles leave on a line.
 ghost use Rattle.std.specs.Prelude.{◌≡◌};
-ghost use Rattle.lines.specs.Progress.{accepted_with, is_done, loading_or, next_due, remembered, sent_again, sent_counts, sent_on, taking, with_each, without_each};
+ghost use Rattle.lines.specs.Progress.{accepted_with, is_done, loading_or, next_due, remembered, sent_again, sent_on, taking};
 
 use crate::line::{Line, OwnSummary, Role, State};
 use crate::marks::put;
@@ -13,8 +13,10 @@ impl Line {
     pub fn tell(&mut self, chosen: &[usize])
         ensures { self.new ≡ taking chosen.now self.old }
     {
-        remove_each(&mut self.to_tell, chosen);
-        insert_each(&mut self.told, chosen);
+        for place in chosen.iter() {
+            self.to_tell.remove(*place);
+            self.told.insert(*place);
+        }
         self.summary = OwnSummary {
             written: true,
             more: !chosen.is_empty(),
@@ -77,30 +79,8 @@ impl Line {
     pub fn send(&mut self, chosen: &[usize])
         ensures { self.new ≡ sent_on chosen.now self.old }
     {
-        send_each(&mut self.counts, chosen);
-    }
-}
-
-fn insert_each(set: &mut PlaceSet, chosen: &[usize])
-    ensures { set.new ≡ with_each chosen.now set.old }
-{
-    for place in chosen.iter() {
-        set.insert(*place);
-    }
-}
-
-fn remove_each(set: &mut PlaceSet, chosen: &[usize])
-    ensures { set.new ≡ without_each chosen.now set.old }
-{
-    for place in chosen.iter() {
-        set.remove(*place);
-    }
-}
-
-fn send_each(counts: &mut [SendCount], chosen: &[usize])
-    ensures { counts.new ≡ sent_counts chosen.now counts.old }
-{
-    for place in chosen.iter() {
-        put(counts, *place, SendCount::sent());
+        for place in chosen.iter() {
+            put(&mut self.counts, *place, SendCount::sent());
+        }
     }
 }

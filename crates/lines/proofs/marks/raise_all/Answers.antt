@@ -1,5 +1,4 @@
-use Rattle.std.proofs.Common.{take_all, rules}
-use Rattle.std.proofs.lemmas.List.{drop_all}
+use Rattle.std.proofs.Common.{rules}
 use Rattle.std.proofs.lemmas.List.Edits.{map_over_more}
 use Rattle.places.specs.SendCounts.{raised}
 use Rattle.lines.specs.Lines.{resend_limit}
@@ -7,6 +6,3 @@ use Rattle.lines.proofs.marks.raise_all.Goals as goal
 
 pub loop-sent-preserved : goal.loop-sent-preserved
 loop-sent-preserved c = search (rules, map_over_more (λ c. raised c resend_limit))
-
-pub returns : goal.returns
-returns c = search (rules, take_all, drop_all)
