@@ -21,10 +21,8 @@ fn is_at_or_below(rank: Rank) -> bool
 fn close_one<K: Kind>(want: &mut Option<Want>, wanted: &K, name: &Name, instance: &K)
     ensures { want.new ≡ closed_want K.model name.now instance.now wanted.now want.old }
 {
-    if let Some(open) = want {
-        if open.name.same(name) && is_at_or_below(wanted.rank(instance)) {
-            *want = None;
-        }
+    if want.is_some_and(|open| open.name.same(name) && is_at_or_below(wanted.rank(instance))) {
+        *want = None;
     }
 }
 
@@ -32,8 +30,8 @@ fn close_one<K: Kind>(want: &mut Option<Want>, wanted: &K, name: &Name, instance
 fn close_at<K: Kind>(want: &mut Option<Want>, row: &[K], place: usize, name: &Name, instance: &K)
     ensures { want.new ≡ closed_at K.model row.now name.now instance.now place want.old }
 {
-    if place < row.len() {
-        close_one(want, &row[place], name, instance);
+    if let Some(wanted) = row.get(place) {
+        close_one(want, wanted, name, instance);
     }
 }
 
@@ -42,36 +40,22 @@ pub fn close_wants<K: Kind>(wants: &mut [Option<Want>], row: &[K], name: &Name, 
     ensures wants { wants.new ≡ closed_wants K.model row.now name.now instance.now wants.old }
     ensures closed { Closed K.model row.now name.now instance.now wants.new }
 {
-    close_each(wants, row, name, instance);
-}
-
-fn close_each<K: Kind>(wants: &mut [Option<Want>], row: &[K], name: &Name, instance: &K)
-    ensures { wants.new ≡ closed_wants K.model row.now name.now instance.now wants.old }
-{
-    for i in 0..wants.len() {
-        close_at(&mut wants[i], row, i, name, instance);
+    for (place, want) in wants.iter_mut().enumerate() {
+        close_at(want, row, place, name, instance);
     }
 }
 
 fn remove_one(want: &mut Option<Want>, line: usize)
     ensures { want.new ≡ removed_want line want.old }
 {
-    if let Some(open) = want {
-        if open.line == line {
-            *want = None;
-        }
+    if want.is_some_and(|open| open.line == line) {
+        *want = None;
     }
 }
 
 pub fn remove_wants(wants: &mut [Option<Want>], line: usize)
     ensures wants { wants.new ≡ removed_wants line wants.old }
     ensures none { NoneOf line wants.new }
-{
-    remove_each(wants, line);
-}
-
-fn remove_each(wants: &mut [Option<Want>], line: usize)
-    ensures { wants.new ≡ removed_wants line wants.old }
 {
     for want in wants.iter_mut() {
         remove_one(want, line);
@@ -97,13 +81,11 @@ pub fn raise_wants(wants: &mut [Option<Want>])
 fn is_of(want: &Option<Want>, line: usize) -> bool
     ensures { result ≡ is_of line want.now }
 {
-    match want {
-        Some(open) => open.line == line,
-        None => false,
-    }
+    want.is_some_and(|want| want.line == line)
 }
 
 // The first want of a line.
+// Stays an indexed loop, as a rule of the project has the search that decides whether a loading line is full.
 pub fn find_want(wants: &[Option<Want>], line: usize) -> Option<usize>
     ensures place { result ≡ want_of wants.now line }
     ensures first { First (is_of line) wants.now result }
@@ -130,13 +112,7 @@ pub fn settle(lines: &mut [Line], wants: &[Option<Want>])
     ensures lines { lines.new ≡ settled_lines wants.now lines.old }
     ensures settled { Settled wants.now lines.new }
 {
-    settle_each(lines, wants);
-}
-
-fn settle_each(lines: &mut [Line], wants: &[Option<Want>])
-    ensures { lines.new ≡ settled_lines wants.now lines.old }
-{
-    for i in 0..lines.len() {
-        settle_one(&mut lines[i], i, wants);
+    for (number, line) in lines.iter_mut().enumerate() {
+        settle_one(line, number, wants);
     }
 }
