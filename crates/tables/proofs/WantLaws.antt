@@ -2,6 +2,7 @@
 use Rattle.std.proofs.Common.{◌≡◌, ℕ, zero, suc, ◌+◌, ◌<◌, ◌≤◌, Bool, true, false, cond, ◌&&◌, eqb, List, [], ◌∷◌, length, get_or, Some, None, Option, sym, refl, ap, ◌∙◌, inl, inr, arith}
 use lib.ListN.{get_or-map}
 use Rattle.std.proofs.lemmas.Bool.{both_ways, cases_lt, lt-ltb, cond-true}
+use Rattle.std.proofs.lemmas.Option.{none-some}
 use Rattle.kinds.specs.declared.rank.Rank.{Rank}
 use Rattle.kinds.specs.declared.rank.Rank.TheVariants.{Lower, Same, Higher}
 use Rattle.kinds.specs.Kinds.{Operations}
@@ -15,7 +16,6 @@ use Rattle.lines.specs.Lines.{no_line}
 use Rattle.lines.specs.Tables.{First, map_from}
 use Rattle.lines.proofs.TableLaws.{found}
 use Rattle.tables.specs.declared.want.Want.{Want}
-use Rattle.tables.specs.Searches.{is_free}
 use Rattle.tables.specs.Wants.{Closed, NoneOf, Settled, at_or_below, closed_at, closed_want, closed_wants, is_of, removed_want, removed_wants, settled_by, settled_line, settled_lines, want_of}
 
 -- a table changed place by place, at one place
@@ -29,9 +29,6 @@ past_end f k [] i d le = refl
 past_end f k (x ∷ xs) zero d le = absurd (omega arith)
 past_end f k (x ∷ xs) (suc i) d le = past_end f (k + 1) xs i d (omega arith)
 
-nothing : {X : Type 0} (x : X) → None ≡ Some x → ⊥
-nothing x e = both_ways true (ap is_free e) refl
-
 module _ {I : Type 0} (ops : Operations I) (row : List I) (name : Name) (x : I) where
   above : (r : Rank) → at_or_below r ≡ false → r ≡ Higher
   above Lower e = absurd (both_ways _ e refl)
@@ -40,7 +37,7 @@ module _ {I : Type 0} (ops : Operations I) (row : List I) (name : Name) (x : I) 
 
   -- a want that stays at the same name ranks above what came
   still_open : (same low : Bool) (v w : Want) → cond (same && low) None (Some v) ≡ Some w → same_name v.name name ≡ same → same_name w.name name ≡ true → low ≡ false
-  still_open true true v w e s t = absurd (nothing w e)
+  still_open true true v w e s t = absurd (none-some w e)
   still_open true false v w e s t = refl
   still_open false low v w e s t = absurd (both_ways _ (ap (λ u. same_name (kept_of u).name name) (sym e) ∙ s) t)
     where
@@ -49,7 +46,7 @@ module _ {I : Type 0} (ops : Operations I) (row : List I) (name : Name) (x : I) 
       kept_of (Some u) = u
 
   open_one : (y : I) (v : Option Want) (w : Want) → closed_want ops name x y v ≡ Some w → same_name w.name name ≡ true → ops.rank y x ≡ Higher
-  open_one y None w e t = absurd (nothing w e)
+  open_one y None w e t = absurd (none-some w e)
   open_one y (Some v) w e t = above (ops.rank y x) (still_open (same_name v.name name) (at_or_below (ops.rank y x)) v w e refl t)
 
   -- no want of the name at or below what came is left
@@ -58,7 +55,7 @@ module _ {I : Type 0} (ops : Operations I) (row : List I) (name : Name) (x : I) 
       elim (cases_lt i (length ws)) [
         | inl l ↦ open_one (instance_at ops row i) (get_or ws i None) w
             (sym (cond-true _ _ _ (lt-ltb i (length row) lt)) ∙ ap (λ n. closed_at ops row name x n (get_or ws i None)) (omega arith) ∙ sym (at_place (closed_at ops row name x) 0 ws i None l) ∙ ap (λ zs. get_or zs i None) (sym e) ∙ h) t
-        | inr l ↦ absurd (nothing w (sym (past_end (closed_at ops row name x) 0 ws i None l) ∙ ap (λ zs. get_or zs i None) (sym e) ∙ h))
+        | inr l ↦ absurd (none-some w (sym (past_end (closed_at ops row name x) 0 ws i None l) ∙ ap (λ zs. get_or zs i None) (sym e) ∙ h))
       ]
 
 none_of : (line : ℕ) (v : Option Want) → is_of line (removed_want line v) ≡ false

@@ -1,7 +1,7 @@
 use Rattle.std.proofs.Common.{rules, take_all}
 use Rattle.std.proofs.lemmas.List.{drop_all}
 use Rattle.std.proofs.lemmas.List.Edits.{map_over_more}
-use Rattle.tables.specs.Wants.{removed_wants, removed_want}
+use Rattle.tables.specs.Wants.{removed_want}
 use Rattle.tables.proofs.WantLaws.{none_left}
 use Rattle.tables.proofs.wants.remove_wants.Goals as goal
 
