@@ -7,6 +7,7 @@ ghost use Rattle.calls.specs.Guards.{is_sound};
 
 use crate::guard::check_rows;
 use crate::refusal::Refusal;
+use database::entry::Arrival;
 use database::node::Node;
 use kinds::kind::Kind;
 use packets::ids::Name;
@@ -71,12 +72,16 @@ fn enter_own<K: Kind>(
         origination.check,
         origination.time,
     )?;
-    let element = Element {
-        name,
-        group: node.group,
-        element_type: origination.element_type,
+    let arrival = Arrival {
+        element: Element {
+            name,
+            group: node.group,
+            element_type: origination.element_type,
+        },
+        instance: new,
+        body: origination.body,
     };
-    node.enter(elements, wants, place, element, new, origination.body);
+    node.enter(elements, wants, place, arrival);
     node.settle();
     Ok(())
 }
@@ -100,16 +105,14 @@ fn succeed<K: Kind>(
     ensures { result ≡ succession_of K.model node.now elements.now name.now check time }
 {
     match node.find(name) {
-        Some(place) => match elements[place].next(check, time) {
-            Some(new) => Ok(Succession { place, new }),
-            None => Err(Refusal::LastInstance),
-        },
-        None => match node.free_place() {
-            Some(place) => Ok(Succession {
-                place,
-                new: K::first(check, time),
-            }),
-            None => Err(Refusal::PlacesFull),
-        },
+        Some(place) => {
+            let new = elements[place].next(check, time).ok_or(Refusal::LastInstance)?;
+            Ok(Succession { place, new })
+        }
+        None => {
+            let place = node.free_place().ok_or(Refusal::PlacesFull)?;
+            let new = K::first(check, time);
+            Ok(Succession { place, new })
+        }
     }
 }

@@ -11,6 +11,14 @@ use packets::ids::NodeId;
 use tables::element::Element;
 use tables::wants;
 
+// An element with its instance and its body.
+#[derive(Clone, Copy)]
+pub struct Arrival<'a, K> {
+    pub element: Element,
+    pub instance: K,
+    pub body: &'a [u8],
+}
+
 impl Node {
     // An entry by arrival, origination, withdrawal or running out: owed on every line past negotiation, the sender's too.
     pub fn enter<K: Kind>(
@@ -18,14 +26,17 @@ impl Node {
         elements: &mut [K],
         wanted: &[K],
         place: usize,
-        element: Element,
-        instance: K,
-        body: &[u8],
+        arrival: Arrival<K>,
     )
-        ensures node { self.new ≡ entered_node K.model wanted.now place element instance body.now self.old }
-        ensures elements { elements.new ≡ slice_set elements.old place instance }
-        ensures closed { Closed K.model wanted.now element.name instance self.new.wants }
+        ensures node { self.new ≡ entered_node K.model wanted.now place arrival.entry.element arrival.entry.instance arrival.entry.body.now self.old }
+        ensures elements { elements.new ≡ slice_set elements.old place arrival.entry.instance }
+        ensures closed { Closed K.model wanted.now arrival.entry.element.name arrival.entry.instance self.new.wants }
     {
+        let Arrival {
+            element,
+            instance,
+            body,
+        } = arrival;
         marks::put(&mut self.places, place, Some(element));
         marks::put(elements, place, instance);
         self.bodies.write(place, body);

@@ -4,6 +4,7 @@ ghost use Rattle.database.specs.Nodes.{world};
 ghost use Rattle.database.specs.Seconds.{aged_all, aged_at, dropped_all, dropped_at, raised_counts};
 ghost use Rattle.lines.specs.Tables.{in_turn};
 
+use crate::entry::Arrival;
 use crate::node::Node;
 use kinds::kind::Kind;
 use lines::marks;
@@ -19,6 +20,7 @@ impl Node {
         }
     }
 
+    // Stays a walk over the 64 places of a node, as a lent row may be of any length, and each step changes the whole node.
     fn drop_each<K: Kind>(&mut self, elements: &[K])
         ensures { self.new ≡ in_turn (dropped_at K.model elements.now) 64 self.old }
     {
@@ -31,15 +33,16 @@ impl Node {
         requires { place < 64 }
         ensures { self.new ≡ dropped_at K.model elements.now place self.old }
     {
-        if place >= elements.len() || self.places[place].is_none() {
+        let Some(instance) = elements.get(place) else {
             return;
-        }
-        if elements[place].is_expired() && !marks::is_owed(&self.lines, place) {
+        };
+        if self.places[place].is_some() && instance.is_expired() && !marks::is_owed(&self.lines, place) {
             self.remove(place);
         }
     }
 
     // Every unexpired element is a second older.
+    // Stays a walk over the 64 places of a node, as each step changes the node and the lent row.
     pub fn age<K: Kind>(&mut self, elements: &mut [K], wanted: &[K])
         ensures { world self.new elements.new wanted.now ≡ aged_all K.model (world self.old elements.old wanted.now) }
     {
@@ -53,18 +56,20 @@ impl Node {
         requires { place < 64 }
         ensures { world self.new elements.new wanted.now ≡ aged_at K.model place (world self.old elements.old wanted.now) }
     {
-        if place >= elements.len() {
-            return;
-        }
-        let Some(element) = self.places[place] else {
+        let (Some(element), Some(instance)) = (self.places[place], elements.get(place).copied()) else {
             return;
         };
-        if elements[place].is_expired() {
+        if instance.is_expired() {
             return;
         }
-        let older = elements[place].older();
+        let older = instance.older();
         if older.is_expired() {
-            self.enter(elements, wanted, place, element, older, &[]);
+            let arrival = Arrival {
+                element,
+                instance: older,
+                body: &[],
+            };
+            self.enter(elements, wanted, place, arrival);
         } else {
             elements[place] = older;
         }
