@@ -54,18 +54,3 @@ module _ {X : Type 0} (limit : ℕ) (f : ℕ → X → Bool) where
 -- the first 32
 pub first_32 : {X : Type 0} (f : ℕ → X → Bool) (xs : List (Option X)) (ps : List ℕ) → ps ≡ chosen 32 f 0 xs [] → ps ≡ first_places f xs
 first_32 f xs ps e = e ∙ chosen_first 32 f 0 xs 32 [] refl
-
-module _ (places : List (Option Element)) (i : ℕ) where
-  abbrev rest_held : ℕ → List (Option Element) → PlaceSet → PlaceSet
-  rest_held k es s = with_each (places_where (λ p e. true) k es) s
-
-  held_step : (k : ℕ) (x : Option Element) (es : List (Option Element)) (s : PlaceSet) → rest_held k (x ∷ es) s ≡ rest_held (k + 1) es (with_held k x s)
-  held_step k None es s = refl
-  held_step k (Some e) es s = refl
-
-  pub held_more : (d : Option Element) (s t u : PlaceSet) → i < length places → rest_held i (drop i places) s ≡ u → t ≡ with_held i (get_or places i d) s → rest_held (i + 1) (drop (i + 1) places) t ≡ u
-  held_more d s t u lt inv e =
-      ap (rest_held (i + 1) (drop (i + 1) places)) e ∙ sym (held_step i (get_or places i d) (drop (i + 1) places) s) ∙ sym (at_drop_more (λ es. rest_held i es s) places i d lt) ∙ inv
-
-  pub held_all : (s u : PlaceSet) → length places ≤ i → rest_held i (drop i places) s ≡ u → s ≡ u
-  held_all s u le inv = sym (at_drop_all (λ es. rest_held i es s) places i le) ∙ inv

@@ -1,10 +1,9 @@
 // Places chosen in order, for a summary, a request or a bundle.
-ghost use Rattle.std.specs.Prelude.{◌≡◌, true, []};
-ghost use Rattle.places.specs.PlaceLists.{listed};
-ghost use Rattle.places.specs.PlaceSets.{has};
+ghost use Rattle.std.specs.Prelude.{◌≡◌, ℕ, Bool};
+ghost use Rattle.places.specs.Lists.{listed};
 ghost use Rattle.exchange.specs.Acceptance.{all_held, with_held};
 ghost use Rattle.exchange.specs.Handing.{due_want};
-ghost use Rattle.exchange.specs.Selections.{chosen, first_places, passes};
+ghost use Rattle.exchange.specs.Selections.{first_places};
 ghost use Rattle.exchange.specs.Summaries.{first_marked};
 
 use lines::marks::RESEND_LIMIT;
@@ -16,66 +15,36 @@ use tables::want::Want;
 // A summary or a request names no more.
 const MOST: usize = 32;
 
-// The first 32 held places with a mark.
-pub fn first_marked(marks: &PlaceSet, places: &[Option<Element>]) -> PlaceList
-    ensures { listed result ≡ first_marked marks.now places.now }
+// The first 32 held places that pass.
+fn first_places<T: Copy, F: Fn(usize, &T) -> bool>(table: &[Option<T>], passes: F) -> PlaceList
+    requires { F.IsAlwaysCallable passes }
+    ensures { (f : ℕ → T → Bool) → ((p : _) (x : _) (b : _) → F.post passes p x b → b ≡ f p x.now) → listed result ≡ first_places f table.now }
 {
-    choose_marked(marks, places)
-}
-
-fn choose_marked(marks: &PlaceSet, places: &[Option<Element>]) -> PlaceList
-    ensures { listed result ≡ first_places (λ p e. has marks.now p) places.now }
-{
-    let mut list = PlaceList::new();
-    for (place, held) in places.iter().enumerate() {
-        list.keep(place, is_marked(marks, place, held), MOST);
+    let mut list = PlaceList::new(0);
+    for (place, held) in table.iter().enumerate() {
+        if let Some(item) = held {
+            list.keep(place, passes(place, item), MOST);
+        }
     }
     list
 }
 
-fn is_marked(marks: &PlaceSet, place: usize, held: &Option<Element>) -> bool
-    ensures { result ≡ passes (λ p e. has marks.now p) place held.now }
+// The first 32 held places with a mark.
+pub fn first_marked(marks: &PlaceSet, places: &[Option<Element>]) -> PlaceList
+    ensures { listed result ≡ first_marked marks.now places.now }
 {
-    match held {
-        Some(_) => marks.contains(place),
-        None => false,
-    }
+    first_places(places, |place, _| marks.contains(place))
 }
 
 // The first 32 due wants of a line.
 pub fn first_due_wants(line: usize, wants: &[Option<Want>]) -> PlaceList
     ensures { listed result ≡ first_places (due_want line) wants.now }
 {
-    choose_due(line, wants)
-}
-
-fn choose_due(line: usize, wants: &[Option<Want>]) -> PlaceList
-    ensures { listed result ≡ first_places (due_want line) wants.now }
-{
-    let mut list = PlaceList::new();
-    for (place, want) in wants.iter().enumerate() {
-        list.keep(place, is_due(line, place, want), MOST);
-    }
-    list
-}
-
-fn is_due(line: usize, place: usize, want: &Option<Want>) -> bool
-    ensures { result ≡ passes (due_want line) place want.now }
-{
-    match want {
-        Some(open) => open.line == line && open.count.is_due(RESEND_LIMIT),
-        None => false,
-    }
+    first_places(wants, |_, want| want.line == line && want.count.is_due(RESEND_LIMIT))
 }
 
 // Every held place.
 pub fn all_held(places: &[Option<Element>]) -> PlaceSet
-    ensures { result ≡ all_held places.now }
-{
-    collect_held(places)
-}
-
-fn collect_held(places: &[Option<Element>]) -> PlaceSet
     ensures { result ≡ all_held places.now }
 {
     let mut set = PlaceSet::empty();

@@ -1,8 +1,9 @@
-use Rattle.std.proofs.Common.{◌≡◌, [], drop}
-use Rattle.places.specs.PlaceLists.{listed}
-use Rattle.places.specs.PlaceSets.{has}
+use Rattle.std.proofs.Common.{◌≡◌, ℕ, Bool, [], drop}
+use Rattle.places.specs.Lists.{listed}
 use Rattle.exchange.specs.Selections.{chosen}
-use Rattle.exchange.proofs.select.choose_marked.Given as goal
+use Rattle.exchange.proofs.select.first_places.Given as goal
 
 abbrev pub invariant-loop-place : goal.invariant-loop-place
-invariant-loop-place l = chosen 32 (λ p e. has l.marks p) l.place (drop l.place l.places) (listed l.list) ≡ chosen 32 (λ p e. has l.marks p) 0 l.places []
+invariant-loop-place g l =
+    goal.F-IsAlwaysCallable g l.passes
+    × ((f : ℕ → _ → Bool) → ((p : _) (x : _) (b : _) → goal.F-post g l.passes p x b → b ≡ f p x.now) → chosen 32 f l.place (drop l.place l.table) (listed l.list) ≡ chosen 32 f 0 l.table [])
