@@ -2,6 +2,7 @@
 use Rattle.std.specs.Prelude.{ℕ, zero, suc, ◌+◌, ◌*◌, ◌%◌, cond, not, ◌||◌, List, [], ◌∷◌, length, take, drop, Some, None, Ok, Err, Option, Result, ◌==◌, nat_lt}
 use Rattle.kinds.specs.BigEndian.{at16}
 use Rattle.packets.specs.declared.group.Group.{Group}
+use Rattle.packets.specs.declared.group.Groups.{Groups}
 use Rattle.packets.specs.declared.group.GroupFault.{GroupFault}
 use Rattle.packets.specs.declared.group.GroupFault.TheVariants as fault
 use Rattle.packets.specs.declared.group.Misfit.{Misfit}
@@ -65,3 +66,7 @@ before_misfit go (Err f) = []
 unfoldable pub contents : ℕ → PacketType → List ℕ → List (List ℕ)
 contents zero t bs = []
 contents (suc k) t bs = cond (length bs == 0) [] (before_misfit (contents k t) (split_group t bs))
+
+-- what the groups hold that are still to come
+abbrev pub groups_left : Groups → List (List ℕ)
+groups_left s = contents (length s.rest.now) s.of s.rest.now

@@ -3,6 +3,7 @@ pub mod Bundles
 pub mod Cleared
 pub mod Contents
 pub mod Encodings
+pub mod Entries
 pub mod Groups
 pub mod Headers
 pub mod Ids

@@ -1,6 +1,5 @@
 -- The summary. Assumes nothing.
 use Rattle.std.specs.Prelude.{ℕ, cond, List, length, take, drop, Some, None, Option, nat_lt}
-use Rattle.std.specs.Borrow.{Bor}
 use Rattle.kinds.specs.BigEndian.{at16, at32}
 use Rattle.packets.specs.declared.summary.Summary.{Summary}
 use Rattle.packets.specs.declared.summary.Described.{Described}
@@ -38,13 +37,6 @@ described_at c = record { node = take 22 c; group = take 14 (drop 22 c); entries
 abbrev pub described_of : List ℕ → Option DescribedView
 described_of c = cond (nat_lt (length c) 40) None (Some (described_at c))
 
-abbrev pub viewed_description : Option (Description × Bor (List ℕ)) → Option (Description × List ℕ)
-viewed_description None = None
-viewed_description (Some p) = Some (p.0, p.1.now)
-
 -- type, two reserved bytes, number, instance
 abbrev pub description_at : List ℕ → Description
 description_at es = record { element_type = at16 (take 8 es) 0; number = at32 (take 8 es) 4; instance = take 8 (drop 8 es) }
-
-abbrev pub description_of : List ℕ → Option (Description × List ℕ)
-description_of es = cond (nat_lt (length es) 16) None (Some (description_at es, drop 8 (drop 8 es)))

@@ -1,6 +1,7 @@
 // The groups that fill a packet: one walker for all four packets.
 ghost use Rattle.std.specs.Prelude.{◌≡◌, ◌+◌, ◌<◌, ◌≤◌, length};
-ghost use Rattle.packets.specs.Groups.{content_fault, count_fault, first_fault, split_group, viewed};
+ghost use Rattle.std.specs.Iterator.{YieldsFirstRef, item_count};
+ghost use Rattle.packets.specs.Groups.{content_fault, contents, count_fault, first_fault, groups_left, split_group, viewed};
 ghost use Rattle.packets.specs.Layouts.{group_fixed_of};
 
 use crate::layout::PacketType;
@@ -56,6 +57,35 @@ pub fn split_group<'a>(of: PacketType, bytes: &'a [u8]) -> Result<Group<'a>, Gro
     match content_fault(of, content) {
         Some(fault) => Err(fault),
         None => Ok(Group { content, rest }),
+    }
+}
+
+// What each group holds, up to the first that breaks its layout.
+#[derive(Drop)]
+pub struct Groups<'a> {
+    of: PacketType,
+    rest: &'a [u8],
+}
+
+impl<'a> Groups<'a> {
+    pub fn new(of: PacketType, bytes: &'a [u8]) -> Groups<'a>
+        ensures { groups_left result ≡ contents (length bytes.now) of bytes.now }
+    {
+        Groups { of, rest: bytes }
+    }
+}
+
+impl<'a> Iterator for Groups<'a> {
+    type Item = &'a [u8];
+
+    ghost next_gives = { YieldsFirstRef groups_left };
+
+    ghost remaining = { item_count groups_left };
+
+    fn next(&mut self) -> Option<&'a [u8]> {
+        let group = split_group(self.of, self.rest).ok()?;
+        self.rest = group.rest;
+        Some(group.content)
     }
 }
 

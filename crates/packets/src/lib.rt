@@ -3,6 +3,7 @@
 
 pub mod acknowledgement;
 pub mod bundle;
+pub mod entry;
 pub mod group;
 pub mod header;
 pub mod ids;

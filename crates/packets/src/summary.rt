@@ -1,7 +1,9 @@
 // The summary: flags, DS number, and descriptions of what is held.
 ghost use Rattle.std.specs.Prelude.{◌≡◌};
-ghost use Rattle.packets.specs.Summaries.{described_of, description_of, summary_of, viewed_described, viewed_description, viewed_summary};
+ghost use Rattle.std.proofs.Common.{arith};
+ghost use Rattle.packets.specs.Summaries.{described_of, description_at, summary_of, viewed_described, viewed_summary};
 
+use crate::entry::Entry;
 use crate::ids::{NodeId, PeerGroupId};
 
 pub const INITIALIZE: u16 = 0x8000;
@@ -69,11 +71,14 @@ impl<'a> Described<'a> {
     }
 }
 
-impl Description {
-    // The first entry, and the entries behind it.
-    pub fn split(entries: &[u8]) -> Option<(Description, &[u8])>
-        ensures { viewed_description result ≡ description_of entries.now }
-    {
+impl Entry for Description {
+    ghost size = { 16 };
+
+    ghost at = { description_at };
+
+    ghost some = { Prim.omega arith };
+
+    fn split(entries: &[u8]) -> Option<(Description, &[u8])> {
         let ([k0, k1, _, _, n0, n1, n2, n3], rest) = entries.split_first_chunk::<8>()?;
         let (instance, rest) = rest.split_first_chunk::<8>()?;
         let element_type = u16::from_be_bytes([*k0, *k1]);
