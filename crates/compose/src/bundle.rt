@@ -1,17 +1,16 @@
 // A bundle: whole elements of one node ID and one peer group ID.
-ghost use Rattle.std.specs.Prelude.{◌≡◌, ◌+◌, ◌≤◌, min, length, None, nat_le, slice_index_or};
-ghost use Rattle.packets.specs.Encodings.{encode};
-ghost use Rattle.writer.specs.Writers.{pasted};
+ghost use Rattle.std.specs.Prelude.{◌≡◌, ◌+◌, nat_le};
 ghost use Rattle.compose.specs.Composed.{bundle_content, composed, composed_length, element_long, needed, short};
-ghost use Rattle.compose.specs.Framed.{element_group, groups_bytes, one_bytes};
+ghost use Rattle.compose.specs.Framed.{element_group};
 
-use crate::frame::{VERSION, held_at, instance_at, write_pieces};
+use crate::frame::{WriteGroup, write_packet, write_pieces};
 use kinds::kind::Kind;
+use kinds::recency::instance_at;
 use packets::ids::{NodeId, PeerGroupId};
 use packets::layout::PacketType;
 use places::store::BodyStore;
 use tables::element::Element;
-use writer::states::{Finished, LONGEST, Open};
+use writer::states::{LONGEST, Open};
 
 // A place that holds no element is passed over. Nothing is written for bodies that are too long or a short buffer.
 pub fn write_bundle<K: Kind>(
@@ -29,7 +28,15 @@ pub fn write_bundle<K: Kind>(
     if !is_short(bodies, chosen) || buffer.len() < LONGEST {
         return 0;
     }
-    write(buffer, places, bodies, elements, node, group, chosen)
+    write_packet(
+        buffer,
+        PacketType::Bundle,
+        &node.bytes,
+        &group.bytes,
+        &ElementGroups { bodies, elements },
+        places,
+        chosen,
+    )
 }
 
 // Whether a bundle of these places passes no packet's length.
@@ -37,7 +44,7 @@ fn is_short(bodies: &BodyStore, chosen: &[usize]) -> bool
     ensures { result ≡ nat_le (44 + needed (element_long bodies.now) chosen.now) 2048 }
 {
     let mut len = 44;
-    for place in chosen.iter() {
+    for place in chosen {
         len += 20 + bodies.body(*place).len();
         if len > LONGEST {
             return false;
@@ -46,79 +53,31 @@ fn is_short(bodies: &BodyStore, chosen: &[usize]) -> bool
     true
 }
 
-fn write<K: Kind>(
-    buffer: &mut [u8],
-    places: &[Option<Element>],
-    bodies: &BodyStore,
-    elements: &[K],
-    node: NodeId,
-    group: PeerGroupId,
-    chosen: &[usize],
-) -> usize
-    requires short { 44 + needed (element_long bodies.now) chosen.now ≤ 2048 }
-    requires room { 2048 ≤ length buffer.old }
-    ensures length { result ≡ length (encode (bundle_content K.model places.now bodies.now elements.now node group chosen.now)) }
-    ensures buffer { buffer.new ≡ pasted 0 (encode (bundle_content K.model places.now bodies.now elements.now node group chosen.now)) buffer.old }
-{
-    let Ok(draft) = Open::begin(
-        buffer,
-        PacketType::Bundle,
-        VERSION,
-        VERSION,
-        &node.bytes,
-        &group.bytes,
-    ) else {
-        return 0;
-    };
-    let draft = write_elements(draft, buffer, places, bodies, elements, chosen);
-    let Finished { len } = draft.finish(buffer);
-    usize::from(len)
+// What an element's group is made of besides the element.
+#[derive(Clone, Copy)]
+struct ElementGroups<'a, K> {
+    bodies: &'a BodyStore,
+    elements: &'a [K],
 }
 
-fn write_elements<K: Kind>(
-    draft: Open,
-    buffer: &mut [u8],
-    places: &[Option<Element>],
-    bodies: &BodyStore,
-    elements: &[K],
-    chosen: &[usize],
-) -> Open
-    requires { draft.len + needed (element_long bodies.now) chosen.now ≤ min (length buffer.old) 2048 }
-    ensures state { result.len ≡ draft.len + length (groups_bytes (element_group K.model elements.now bodies.now) places.now chosen.now) }
-    ensures bytes { buffer.new ≡ pasted draft.len (groups_bytes (element_group K.model elements.now bodies.now) places.now chosen.now) buffer.old }
-{
-    let mut draft = draft;
-    for place in chosen.iter() {
-        draft = write_element(draft, buffer, places, bodies, elements, *place);
+impl<'a, K: Kind> WriteGroup for ElementGroups<'a, K> {
+    type Record = Element;
+
+    ghost bytes = { λ s. element_group K.model s.elements.now s.bodies.now };
+
+    ghost most = { λ s. element_long s.bodies.now };
+
+    fn write_group(&self, draft: Open, buffer: &mut [u8], place: usize, element: Element) -> Open {
+        let instance = instance_at(self.elements, place).write();
+        let [k0, k1] = element.element_type.to_be_bytes();
+        let [n0, n1, n2, n3] = element.name.number.to_be_bytes();
+        write_pieces(
+            draft,
+            buffer,
+            PacketType::Bundle,
+            &[k0, k1, 0, 0, n0, n1, n2, n3],
+            &instance,
+            self.bodies.body(place),
+        )
     }
-    draft
-}
-
-fn write_element<K: Kind>(
-    draft: Open,
-    buffer: &mut [u8],
-    places: &[Option<Element>],
-    bodies: &BodyStore,
-    elements: &[K],
-    place: usize,
-) -> Open
-    requires { draft.len + element_long bodies.now place ≤ min (length buffer.old) 2048 }
-    ensures state { result.len ≡ draft.len + length (one_bytes (element_group K.model elements.now bodies.now) place (slice_index_or places.now place None)) }
-    ensures bytes { buffer.new ≡ pasted draft.len (one_bytes (element_group K.model elements.now bodies.now) place (slice_index_or places.now place None)) buffer.old }
-    ensures short { result.len ≤ draft.len + element_long bodies.now place }
-{
-    let Some(element) = held_at(places, place) else {
-        return draft;
-    };
-    let instance = instance_at(elements, place).write();
-    let [k0, k1] = element.element_type.to_be_bytes();
-    let [n0, n1, n2, n3] = element.name.number.to_be_bytes();
-    write_pieces(
-        draft,
-        buffer,
-        PacketType::Bundle,
-        &[k0, k1, 0, 0, n0, n1, n2, n3],
-        &instance,
-        bodies.body(place),
-    )
 }

@@ -1,40 +1,98 @@
-// What the four packets share: reading a table or a row at a place, and steps of writing that are not declined, since there is
-// room for them.
-ghost use Rattle.std.specs.Prelude.{◌≡◌, ◌+◌, ◌≤◌, min, ◌++◌, length, None, slice_index_or};
-ghost use Rattle.kinds.specs.Recency.{instance_at};
-ghost use Rattle.packets.specs.Encodings.{framed};
-ghost use Rattle.writer.specs.Writers.{pasted};
+// What the four packets share: a packet of a group for each place of a table that holds a record, and steps of writing that
+// are not declined, since there is room for them.
+ghost use Rattle.std.specs.Prelude.{◌≡◌, ℕ, ◌+◌, ◌≤◌, List, ◌++◌, length};
+ghost use Rattle.packets.specs.Encodings.{framed, headed};
+ghost use Rattle.writer.specs.Writers.{begin_bytes, group_bytes, pasted};
+ghost use Rattle.compose.specs.Composed.{needed};
+ghost use Rattle.compose.specs.Framed.{HasRoom, groups_bytes};
 
-use kinds::kind::Kind;
 use packets::layout::PacketType;
-use writer::states::{Declined, GroupOpen, Open};
+use writer::states::{GroupOpen, Open};
 
 // Newest and oldest version of what we write.
-pub(crate) const VERSION: u8 = 1;
+const VERSION: u8 = 1;
 
 // A summary or a request names no more places.
 pub(crate) const MOST: usize = 32;
 
-// A place past the end holds nothing.
-pub(crate) fn held_at<T: Copy>(table: &[Option<T>], place: usize) -> Option<T>
-    ensures { result ≡ slice_index_or table.now place None }
-{
-    if place < table.len() {
-        table[place]
-    } else {
-        None
-    }
+// How the record at a place is written: as one group, which takes at most so many bytes.
+pub(crate) trait WriteGroup {
+    type Record: Copy;
+
+    ghost bytes: { Self → ℕ → Self.Record → List ℕ };
+
+    ghost most: { Self → ℕ → ℕ };
+
+    fn write_group(&self, draft: Open, buffer: &mut [u8], place: usize, held: Self::Record) -> Open
+        requires { HasRoom draft.len (most self.now place) buffer.old }
+        ensures state { result.len ≡ draft.len + length (bytes self.now place held) }
+        ensures bytes { buffer.new ≡ pasted draft.len (bytes self.now place held) buffer.old }
+        ensures short { result.len ≤ draft.len + most self.now place };
 }
 
-// What lies past the end is never looked at.
-pub(crate) fn instance_at<K: Kind>(row: &[K], place: usize) -> K
-    ensures { result ≡ instance_at K.model row.now place }
+// A whole packet. A place that holds nothing is passed over.
+pub(crate) fn write_packet<W: WriteGroup>(
+    buffer: &mut [u8],
+    of: PacketType,
+    first: &[u8],
+    second: &[u8],
+    groups: &W,
+    table: &[Option<W::Record>],
+    chosen: &[usize],
+) -> usize
+    requires { HasRoom (8 + (length first.now + length second.now)) (needed (W.most groups.now) chosen.now) buffer.old }
+    ensures length { result ≡ length (headed of 1 1 ((first.now ++ second.now) ++ groups_bytes (W.bytes groups.now) table.now chosen.now)) }
+    ensures buffer { buffer.new ≡ pasted 0 (headed of 1 1 ((first.now ++ second.now) ++ groups_bytes (W.bytes groups.now) table.now chosen.now)) buffer.old }
 {
-    if place < row.len() {
-        row[place]
-    } else {
-        K::first(0, 0)
+    let draft = begin(buffer, of, first, second);
+    let draft = write_groups(draft, buffer, groups, table, chosen);
+    usize::from(draft.finish(buffer).len)
+}
+
+fn write_groups<W: WriteGroup>(
+    draft: Open,
+    buffer: &mut [u8],
+    groups: &W,
+    table: &[Option<W::Record>],
+    chosen: &[usize],
+) -> Open
+    requires { HasRoom draft.len (needed (W.most groups.now) chosen.now) buffer.old }
+    ensures state { result.len ≡ draft.len + length (groups_bytes (W.bytes groups.now) table.now chosen.now) }
+    ensures bytes { buffer.new ≡ pasted draft.len (groups_bytes (W.bytes groups.now) table.now chosen.now) buffer.old }
+{
+    let mut draft = draft;
+    for place in chosen {
+        let Some(held) = table.get(*place).copied().flatten() else {
+            continue;
+        };
+        draft = groups.write_group(draft, buffer, *place, held);
     }
+    draft
+}
+
+// A packet of ours, up to its groups.
+pub(crate) fn begin(buffer: &mut [u8], of: PacketType, first: &[u8], second: &[u8]) -> Open
+    requires { HasRoom 0 (8 + (length first.now + length second.now)) buffer.old }
+    ensures state { result.len ≡ 8 + (length first.now + length second.now) }
+    ensures bytes { buffer.new ≡ pasted 0 (begin_bytes of 1 1 first.now second.now) buffer.old }
+{
+    Open::begin(buffer, of, VERSION, VERSION, first, second).unwrap()
+}
+
+// A group, up to its entries.
+pub(crate) fn open_group(
+    draft: Open,
+    buffer: &mut [u8],
+    of: PacketType,
+    first: &[u8],
+    second: &[u8],
+    third: &[u8],
+) -> GroupOpen
+    requires { HasRoom draft.len (4 + (length first.now + (length second.now + length third.now))) buffer.old }
+    ensures state { result ≡ record { start = draft.len; len = draft.len + (4 + (length first.now + (length second.now + length third.now))) } }
+    ensures bytes { buffer.new ≡ pasted draft.len (group_bytes of first.now second.now third.now) buffer.old }
+{
+    draft.group(buffer, of, first, second, third).unwrap()
 }
 
 // A group of three pieces.
@@ -46,15 +104,12 @@ pub(crate) fn write_pieces(
     second: &[u8],
     third: &[u8],
 ) -> Open
-    requires { draft.len + (4 + (length first.now + (length second.now + length third.now))) ≤ min (length buffer.old) 2048 }
+    requires { HasRoom draft.len (4 + (length first.now + (length second.now + length third.now))) buffer.old }
     ensures state { result.len ≡ draft.len + length (framed of (first.now ++ (second.now ++ third.now))) }
     ensures bytes { buffer.new ≡ pasted draft.len (framed of (first.now ++ (second.now ++ third.now))) buffer.old }
     ensures long { result.len ≡ draft.len + (4 + (length first.now + (length second.now + length third.now))) }
 {
-    match draft.group(buffer, of, first, second, third) {
-        Ok(group) => group.close(buffer),
-        Err(Declined { state, fault: _ }) => state,
-    }
+    open_group(draft, buffer, of, first, second, third).close(buffer)
 }
 
 // An entry of two pieces.
@@ -64,12 +119,9 @@ pub(crate) fn add_entry(
     first: &[u8],
     second: &[u8],
 ) -> GroupOpen
-    requires { group.len + (length first.now + length second.now) ≤ min (length buffer.old) 2048 }
+    requires { HasRoom group.len (length first.now + length second.now) buffer.old }
     ensures state { result ≡ record { start = group.start; len = group.len + length (first.now ++ second.now) } }
     ensures bytes { buffer.new ≡ pasted group.len (first.now ++ second.now) buffer.old }
 {
-    match group.add(buffer, first, second) {
-        Ok(group) => group,
-        Err(Declined { state, fault: _ }) => state,
-    }
+    group.add(buffer, first, second).unwrap()
 }

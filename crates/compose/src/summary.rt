@@ -1,98 +1,67 @@
 // A summary: a group for each element that is told, with the one description.
-ghost use Rattle.std.specs.Prelude.{◌≡◌, ◌+◌, ◌≤◌, min, ◌∷◌, ◌++◌, length, None, slice_index_or};
+ghost use Rattle.std.specs.Prelude.{◌≡◌, ◌+◌, ◌≤◌, ◌∷◌, ◌++◌, length};
 ghost use Rattle.packets.specs.declared.layout.PacketType.TheVariants.{Summary};
-ghost use Rattle.packets.specs.Encodings.{encode, framed};
+ghost use Rattle.packets.specs.Encodings.{framed};
 ghost use Rattle.writer.specs.Writers.{pasted};
-ghost use Rattle.compose.specs.Composed.{composed, composed_length, few, needed, summary_content};
-ghost use Rattle.compose.specs.Framed.{described_group, description_group, groups_bytes, one_bytes};
+ghost use Rattle.compose.specs.Composed.{composed, composed_length, few, summary_content};
+ghost use Rattle.compose.specs.Framed.{HasRoom, described_group, description_group};
 
-use crate::frame::{MOST, VERSION, add_entry, held_at, instance_at};
+use crate::frame::{MOST, WriteGroup, add_entry, open_group, write_packet};
 use kinds::kind::Kind;
+use kinds::recency::instance_at;
 use packets::layout::PacketType;
+use packets::summary::SummaryHead;
 use tables::element::Element;
-use writer::states::{Declined, Finished, LONGEST, Open};
+use writer::states::{LONGEST, Open};
 
 // A place that holds no element is passed over. Nothing is written for more than 32 places or a short buffer.
 pub fn write_summary<K: Kind>(
     buffer: &mut [u8],
-    flags: u16,
-    ds_number: u32,
+    head: SummaryHead,
     places: &[Option<Element>],
     elements: &[K],
     told: &[usize],
 ) -> usize
-    ensures written { result ≡ composed_length (few told.now buffer.old) (summary_content K.model flags ds_number places.now elements.now told.now) }
-    ensures buffer { buffer.new ≡ composed (few told.now buffer.old) (summary_content K.model flags ds_number places.now elements.now told.now) buffer.old }
+    ensures written { result ≡ composed_length (few told.now buffer.old) (summary_content K.model head.flags head.ds_number places.now elements.now told.now) }
+    ensures buffer { buffer.new ≡ composed (few told.now buffer.old) (summary_content K.model head.flags head.ds_number places.now elements.now told.now) buffer.old }
 {
     if told.len() > MOST || buffer.len() < LONGEST {
         return 0;
     }
-    write(buffer, flags, ds_number, places, elements, told)
+    let [f0, f1] = head.flags.to_be_bytes();
+    let [d0, d1, d2, d3] = head.ds_number.to_be_bytes();
+    write_packet(
+        buffer,
+        PacketType::Summary,
+        &[f0, f1, 0, 0, d0, d1, d2, d3],
+        &[],
+        &DescriptionGroups { elements },
+        places,
+        told,
+    )
 }
 
-fn write<K: Kind>(
-    buffer: &mut [u8],
-    flags: u16,
-    ds_number: u32,
-    places: &[Option<Element>],
-    elements: &[K],
-    told: &[usize],
-) -> usize
-    requires few { length told.now ≤ 32 }
-    requires room { 2048 ≤ length buffer.old }
-    ensures length { result ≡ length (encode (summary_content K.model flags ds_number places.now elements.now told.now)) }
-    ensures buffer { buffer.new ≡ pasted 0 (encode (summary_content K.model flags ds_number places.now elements.now told.now)) buffer.old }
-{
-    let [f0, f1] = flags.to_be_bytes();
-    let [d0, d1, d2, d3] = ds_number.to_be_bytes();
-    let fixed = [f0, f1, 0, 0, d0, d1, d2, d3];
-    let Ok(draft) = Open::begin(buffer, PacketType::Summary, VERSION, VERSION, &fixed, &[]) else {
-        return 0;
-    };
-    let draft = write_elements(draft, buffer, places, elements, told);
-    let Finished { len } = draft.finish(buffer);
-    usize::from(len)
+// What an element's description is made of besides the element.
+#[derive(Clone, Copy)]
+struct DescriptionGroups<'a, K> {
+    elements: &'a [K],
 }
 
-fn write_elements<K: Kind>(
-    draft: Open,
-    buffer: &mut [u8],
-    places: &[Option<Element>],
-    elements: &[K],
-    told: &[usize],
-) -> Open
-    requires { draft.len + needed (λ _. 60) told.now ≤ min (length buffer.old) 2048 }
-    ensures state { result.len ≡ draft.len + length (groups_bytes (description_group K.model elements.now) places.now told.now) }
-    ensures bytes { buffer.new ≡ pasted draft.len (groups_bytes (description_group K.model elements.now) places.now told.now) buffer.old }
-{
-    let mut draft = draft;
-    for place in told.iter() {
-        draft = write_element(draft, buffer, places, elements, *place);
+impl<'a, K: Kind> WriteGroup for DescriptionGroups<'a, K> {
+    type Record = Element;
+
+    ghost bytes = { λ s. description_group K.model s.elements.now };
+
+    ghost most = { λ _ _. 60 };
+
+    fn write_group(&self, draft: Open, buffer: &mut [u8], place: usize, element: Element) -> Open {
+        let instance = instance_at(self.elements, place).write();
+        write_description(draft, buffer, element, instance)
     }
-    draft
-}
-
-fn write_element<K: Kind>(
-    draft: Open,
-    buffer: &mut [u8],
-    places: &[Option<Element>],
-    elements: &[K],
-    place: usize,
-) -> Open
-    requires { draft.len + 60 ≤ min (length buffer.old) 2048 }
-    ensures state { result.len ≡ draft.len + length (one_bytes (description_group K.model elements.now) place (slice_index_or places.now place None)) }
-    ensures bytes { buffer.new ≡ pasted draft.len (one_bytes (description_group K.model elements.now) place (slice_index_or places.now place None)) buffer.old }
-    ensures short { result.len ≤ draft.len + 60 }
-{
-    let Some(element) = held_at(places, place) else {
-        return draft;
-    };
-    let instance = instance_at(elements, place).write();
-    write_description(draft, buffer, element, instance)
 }
 
 fn write_description(draft: Open, buffer: &mut [u8], element: Element, instance: [u8; 8]) -> Open
-    requires { draft.len + 60 ≤ min (length buffer.old) 2048 }
+    requires { HasRoom draft.len 60 buffer.old }
     ensures state { result.len ≡ draft.len + length (described_group element instance) }
     ensures bytes { buffer.new ≡ pasted draft.len (described_group element instance) buffer.old }
     ensures short { result.len ≤ draft.len + 60 }
@@ -123,13 +92,18 @@ fn write_group(
     numbers: &[u8],
     instance: &[u8],
 ) -> Open
-    requires { draft.len + (8 + (length node.now + (length group.now + (length numbers.now + length instance.now)))) ≤ min (length buffer.old) 2048 }
+    requires { HasRoom draft.len (8 + (length node.now + (length group.now + (length numbers.now + length instance.now)))) buffer.old }
     ensures state { result.len ≡ draft.len + length (framed Summary (node.now ++ (group.now ++ (0 ∷ 0 ∷ 0 ∷ 1 ∷ (numbers.now ++ instance.now))))) }
     ensures bytes { buffer.new ≡ pasted draft.len (framed Summary (node.now ++ (group.now ++ (0 ∷ 0 ∷ 0 ∷ 1 ∷ (numbers.now ++ instance.now))))) buffer.old }
     ensures long { result.len ≡ draft.len + (8 + (length node.now + (length group.now + (length numbers.now + length instance.now)))) }
 {
-    match draft.group(buffer, PacketType::Summary, node, group, &[0, 0, 0, 1]) {
-        Ok(group) => add_entry(group, buffer, numbers, instance).close(buffer),
-        Err(Declined { state, fault: _ }) => state,
-    }
+    let open = open_group(
+        draft,
+        buffer,
+        PacketType::Summary,
+        node,
+        group,
+        &[0, 0, 0, 1],
+    );
+    add_entry(open, buffer, numbers, instance).close(buffer)
 }
