@@ -1,2 +1,3 @@
 pub mod AgeingLaws
 pub mod RecencyLaws
+pub mod Reduced

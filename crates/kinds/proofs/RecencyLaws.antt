@@ -1,6 +1,9 @@
 -- The newest instance, and successors. Assumes nothing.
-use Rattle.std.proofs.Common.{◌≡◌, ℕ, zero, suc, ◌+◌, ◌-◌, ◌<◌, ◌≤◌, false, cond, eqb, List, length, Some, None, Option, sym, refl, ap, ◌∙◌, subst, inl, inr, eq-or-lt_of_le, arith}
+use Rattle.std.proofs.Common.{◌≡◌, ℕ, zero, suc, ◌+◌, ◌-◌, ◌<◌, ◌≤◌, false, cond, eqb, List, [], ◌∷◌, length, Some, None, Option, sym, refl, ap, ◌∙◌, subst, inl, inr, eq-or-lt_of_le, arith}
 use Rattle.std.proofs.lemmas.Bool.{ne_eqb}
+use Rattle.std.specs.List.{fold, reduce, enumerate_from}
+use Rattle.std.specs.Option.{option_map, MatchOption}
+use Rattle.std.specs.Prelude.{slice_index_or}
 use Rattle.kinds.specs.declared.rank.Rank.{Rank}
 use Rattle.kinds.specs.declared.rank.Rank.TheVariants.{Lower, Same, Higher}
 use Rattle.kinds.specs.Kinds.{Operations, Laws}
@@ -33,6 +36,14 @@ some_none P e = absurd (let z : ◌≡◌ {A = ℕ} 0 1 = cc in omega arith)
 
 same_some : {I : Type 0} (x y : I) → Some x ≡ Some y → x ≡ y
 same_some x y e = cc
+
+-- the newer of two instances, each with its index
+abbrev pub newer_pair : {I : Type 0} → Operations I → ℕ × I → ℕ × I → ℕ × I
+newer_pair ops best next = cond (is_higher (ops.rank next.1 best.1)) next best
+
+place_read : {B I : Type 0} (v : B → I) (best : Option (ℕ × B)) → option_map (λ (e : ℕ × B). e.0) best ≡ option_map (λ (e : ℕ × I). e.0) (option_map (λ (e : ℕ × B). (e.0, v e.1)) best)
+place_read v None = refl
+place_read v (Some e) = refl
 
 module _ {I : Type 0} (ops : Operations I) (laws : Laws ops) where
   abbrev facts : OrderFacts ops.rank
@@ -81,20 +92,26 @@ module _ {I : Type 0} (ops : Operations I) (laws : Laws ops) where
     newer_old : (p i : ℕ) → (ops.rank (at i) (at p) ≡ Higher → ⊥) → newer_of ops xs p i ≡ p
     newer_old p i h = ap (λ b. cond b i p) (is_higher_false _ h)
 
-    newer_within : (p i : ℕ) → p < length xs → i < length xs → newer_of ops xs p i < length xs
-    newer_within p i a b =
-        let P : ℕ → Type 0 = λ k. k < length xs in
-        by_higher _ (ops.rank (at i) (at p)) (λ h. subst P (sym (newer_new p i h)) b) (λ h. subst P (sym (newer_old p i h)) a)
+    abbrev placed : ℕ → ℕ × I
+    placed p = (p, at p)
 
-    -- one turn of a search that looks at the instance at i
-    pub turn : (best i r : ℕ) → 1 ≤ i → i < length xs → best < length xs → best ≡ newest_to ops xs (i - 1) → r ≡ newer_of ops xs best i → (r < length xs) × (r ≡ newest_to ops xs (i + 1 - 1))
-    turn best i r o li lb e f =
-        let P : ℕ → Type 0 = λ k. k < length xs in
-        let s : i ≡ suc (i - 1) = omega arith in
-        let t : suc (i - 1) ≡ i + 1 - 1 = omega arith in (
-          subst P (sym f) (newer_within best i lb li),
-          f ∙ ap (newer_of ops xs best) s ∙ ap (λ b. newer_of ops xs b (suc (i - 1))) e ∙ sym (newest_more (i - 1)) ∙ ap (newest_to ops xs) t,
-        )
+    newer_placed : (p i : ℕ) → newer_pair ops (placed p) (placed i) ≡ placed (newer_of ops xs p i)
+    newer_placed p i =
+        by_higher _ (ops.rank (at i) (at p))
+        (λ h. ap (λ r. cond (is_higher r) (placed i) (placed p)) h ∙ ap placed (sym (newer_new p i h)))
+        (λ h. ap (λ b. cond b (placed i) (placed p)) (is_higher_false _ h) ∙ ap placed (sym (newer_old p i h)))
+
+    -- the search has come to n, and ys are the instances behind
+    folded : (ys : List I) (n k : ℕ) → k ≡ suc n → ((i : ℕ) → slice_index_or ys i (ops.first 0 0) ≡ at (k + i)) → fold (newer_pair ops) (placed (newest_to ops xs n)) (enumerate_from k ys) ≡ placed (newest_to ops xs (n + length ys))
+    folded [] n k e r = ap (λ m. placed (newest_to ops xs m)) (let z : n ≡ n + 0 = omega arith in z)
+    folded (y ∷ ys) n k e r =
+        let p = newest_to ops xs n in
+        let here : newer_pair ops (placed p) (k, y) ≡ placed (newest_to ops xs (suc n)) =
+            ap (λ x. newer_pair ops (placed p) (k, x)) (r 0 ∙ ap at (let z : k + 0 ≡ k = omega arith in z))
+            ∙ newer_placed p k ∙ ap (λ m. placed (newer_of ops xs p m)) e ∙ ap placed (sym (newest_more n)) in
+        let more : (i : ℕ) → slice_index_or ys i (ops.first 0 0) ≡ at (k + 1 + i) = λ i. r (suc i) ∙ ap at (let z : k + suc i ≡ k + 1 + i = omega arith in z) in
+        ap (λ b. fold (newer_pair ops) b (enumerate_from (k + 1) ys)) here ∙ folded ys (suc n) (k + 1) (omega arith) more
+        ∙ ap (λ m. placed (newest_to ops xs m)) (let z : suc n + length ys ≡ n + suc (length ys) = omega arith in z)
 
     -- p is the newest of the first n + 1
     record Among (n p : ℕ) : Type 0 where
@@ -158,3 +175,20 @@ module _ {I : Type 0} (ops : Operations I) (laws : Laws ops) where
             order = facts;
           },
         )
+
+  -- the newest of each pair, from the first on, where v reads the items
+  pub found : {B : Type 0} (v : B → I) (xs : List I) (best : Option (ℕ × B)) → option_map (λ (e : ℕ × B). (e.0, v e.1)) best ≡ reduce (newer_pair ops) (enumerate_from 0 xs) → option_map (λ (e : ℕ × B). e.0) best ≡ newest_of ops xs
+  found v [] best e = place_read v best ∙ ap (option_map (λ (b : ℕ × I). b.0)) e
+  found v (x ∷ xs) best e =
+      let all = x ∷ xs in
+      let w : reduce (newer_pair ops) (enumerate_from 0 all) ≡ Some (placed all (newest_to ops all (0 + length xs))) =
+          ap (λ p. Some (fold (newer_pair ops) (placed all p) (enumerate_from 1 xs))) (sym (newest_none all))
+          ∙ ap Some (folded all xs 0 1 refl (λ i. ap (at all) (let z : suc i ≡ 1 + i = omega arith in z))) in
+      place_read v best ∙ ap (option_map (λ (b : ℕ × I). b.0)) (e ∙ w) ∙ ap (λ n. Some (newest_to ops all n)) (let z : 0 + length xs ≡ length all - 1 = omega arith in z)
+      ∙ (searched all _ (omega arith) refl).0
+
+  pub is_newest : (xs : List I) (r : Option ℕ) → r ≡ newest_of ops xs → MatchOption r (length xs ≡ 0) (Newest ops xs)
+  is_newest [] r e = subst (λ k. MatchOption k (length {A = I} [] ≡ 0) (Newest ops [])) (sym e) refl
+  is_newest (x ∷ xs) r e =
+      let s = searched (x ∷ xs) _ (omega arith) refl in
+      subst (λ k. MatchOption k (length (x ∷ xs) ≡ 0) (Newest ops (x ∷ xs))) (s.0 ∙ sym e) s.1

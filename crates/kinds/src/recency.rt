@@ -1,6 +1,6 @@
 // Which instance is newest, and what follows one.
-ghost use Rattle.std.specs.Prelude.{◌≡◌, ◌<◌, length, MatchOption};
-ghost use Rattle.kinds.specs.Recency.{Newest, Succeeds, instance_at, newer_of, newest_of, successor_of};
+ghost use Rattle.std.specs.Prelude.{◌≡◌, length, MatchOption};
+ghost use Rattle.kinds.specs.Recency.{Newest, Succeeds, instance_at, newest_of, successor_of};
 
 use crate::kind::Kind;
 use crate::rank::Rank;
@@ -10,25 +10,14 @@ pub fn newest<K: Kind>(instances: &[K]) -> Option<usize>
     ensures value { result ≡ newest_of K.model instances.now }
     ensures newest { MatchOption result (length instances.now ≡ 0) (Newest K.model instances.now) }
 {
-    if instances.is_empty() {
-        return None;
-    }
-    let mut best = 0;
-    for i in 1..instances.len() {
-        best = newer(instances, best, i);
-    }
-    Some(best)
-}
-
-// The index of the newer of two, the first where they rank the same.
-fn newer<K: Kind>(instances: &[K], best: usize, i: usize) -> usize
-    requires { (best < length instances.now) × (i < length instances.now) }
-    ensures { result ≡ newer_of K.model instances.now best i }
-{
-    match instances[i].rank(&instances[best]) {
-        Rank::Higher => i,
-        Rank::Lower | Rank::Same => best,
-    }
+    instances
+        .iter()
+        .enumerate()
+        .reduce(|best, next| match next.1.rank(best.1) {
+            Rank::Higher => next,
+            Rank::Lower | Rank::Same => best,
+        })
+        .map(|(place, _)| place)
 }
 
 // The instance under which an element goes on: the next after the one held, or the first where none is held.
