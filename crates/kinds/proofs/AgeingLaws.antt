@@ -1,6 +1,8 @@
 -- An instance of any kind as time goes by. Assumes nothing.
-use Rattle.std.proofs.Common.{◌≡◌, ℕ, zero, suc, ◌-◌, ◌<◌, ◌≤◌, min, sym, refl, ap, ◌∙◌, subst, inl, inr, eq-or-lt_of_le, arith}
+use Rattle.std.proofs.Common.{◌≡◌, ℕ, zero, suc, ◌-◌, ◌<◌, ◌≤◌, min, List, [], ◌∷◌, length, sym, refl, ap, ◌∙◌, subst, inl, inr, eq-or-lt_of_le, arith}
 use Rattle.std.proofs.lemmas.Bool.{cases_lt}
+use Rattle.std.proofs.lemmas.List.FromFn.{length-range_with_len}
+use Rattle.std.specs.List.{fold, range_with_len}
 use Rattle.kinds.specs.declared.rank.Rank.TheVariants.{Same, Higher}
 use Rattle.kinds.specs.Ageing.{aged, Ageing}
 use Rattle.kinds.specs.Kinds.{Operations, Laws}
@@ -66,8 +68,17 @@ module _ {I : Type 0} (ops : Operations I) (laws : Laws ops) where
     stays_expired = λ e. aged_stops n x (omega arith) ∙ ap (λ m. aged ops m x) e ∙ aged_none x;
   }
 
-  -- what a count of seconds that stops at the time left comes to
-  pub counted : (x y : I) (n i : ℕ) → i ≡ min n (ops.left x) → y ≡ aged ops i x → (y ≡ aged ops n x) × Ageing ops x n y
-  counted x y n i e f =
-      let q : y ≡ aged ops n x = f ∙ ap (λ m. aged ops m x) e ∙ aged_min n x in
+  aged_older : (n : ℕ) (x : I) → aged ops n (ops.older x) ≡ aged ops (suc n) x
+  aged_older zero x = aged_none (ops.older x) ∙ ap ops.older (sym (aged_none x)) ∙ sym (aged_more 0 x)
+  aged_older (suc n) x = aged_more n (ops.older x) ∙ ap ops.older (aged_older n x) ∙ sym (aged_more (suc n) x)
+
+  -- one second older for each item
+  folded : (x : I) (ys : List ℕ) → fold (λ y _. ops.older y) x ys ≡ aged ops (length ys) x
+  folded x [] = sym (aged_none x)
+  folded x (y ∷ ys) = folded (ops.older x) ys ∙ aged_older (length ys) x
+
+  -- what a step for each second comes to, as far as time is left
+  pub counted : (x y : I) (n : ℕ) → y ≡ fold (λ z _. ops.older z) x (range_with_len 0 (min n (ops.left x))) → (y ≡ aged ops n x) × Ageing ops x n y
+  counted x y n f =
+      let q : y ≡ aged ops n x = f ∙ folded x (range_with_len 0 (min n (ops.left x))) ∙ ap (λ k. aged ops k x) (length-range_with_len 0 (min n (ops.left x))) ∙ aged_min n x in
       (q, subst (Ageing ops x n) (sym q) (ageing x n))

@@ -107,8 +107,8 @@ module _ {I : Type 0} (ops : Operations I) (laws : Laws ops) where
     folded (y ∷ ys) n k e r =
         let p = newest_to ops xs n in
         let here : newer_pair ops (placed p) (k, y) ≡ placed (newest_to ops xs (suc n)) =
-            ap (λ x. newer_pair ops (placed p) (k, x)) (r 0 ∙ ap at (let z : k + 0 ≡ k = omega arith in z))
-            ∙ newer_placed p k ∙ ap (λ m. placed (newer_of ops xs p m)) e ∙ ap placed (sym (newest_more n)) in
+        ap (λ x. newer_pair ops (placed p) (k, x)) (r 0 ∙ ap at (let z : k + 0 ≡ k = omega arith in z))
+        ∙ newer_placed p k ∙ ap (λ m. placed (newer_of ops xs p m)) e ∙ ap placed (sym (newest_more n)) in
         let more : (i : ℕ) → slice_index_or ys i (ops.first 0 0) ≡ at (k + 1 + i) = λ i. r (suc i) ∙ ap at (let z : k + suc i ≡ k + 1 + i = omega arith in z) in
         ap (λ b. fold (newer_pair ops) b (enumerate_from (k + 1) ys)) here ∙ folded ys (suc n) (k + 1) (omega arith) more
         ∙ ap (λ m. placed (newest_to ops xs m)) (let z : suc n + length ys ≡ n + suc (length ys) = omega arith in z)
@@ -182,8 +182,8 @@ module _ {I : Type 0} (ops : Operations I) (laws : Laws ops) where
   found v (x ∷ xs) best e =
       let all = x ∷ xs in
       let w : reduce (newer_pair ops) (enumerate_from 0 all) ≡ Some (placed all (newest_to ops all (0 + length xs))) =
-          ap (λ p. Some (fold (newer_pair ops) (placed all p) (enumerate_from 1 xs))) (sym (newest_none all))
-          ∙ ap Some (folded all xs 0 1 refl (λ i. ap (at all) (let z : suc i ≡ 1 + i = omega arith in z))) in
+      ap (λ p. Some (fold (newer_pair ops) (placed all p) (enumerate_from 1 xs))) (sym (newest_none all))
+      ∙ ap Some (folded all xs 0 1 refl (λ i. ap (at all) (let z : suc i ≡ 1 + i = omega arith in z))) in
       place_read v best ∙ ap (option_map (λ (b : ℕ × I). b.0)) (e ∙ w) ∙ ap (λ n. Some (newest_to ops all n)) (let z : 0 + length xs ≡ length all - 1 = omega arith in z)
       ∙ (searched all _ (omega arith) refl).0
 

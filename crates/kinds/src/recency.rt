@@ -17,7 +17,7 @@ pub fn newest<K: Kind>(instances: &[K]) -> Option<usize>
             Rank::Higher => next,
             Rank::Lower | Rank::Same => best,
         })
-        .map(|(place, _)| place)
+        .map(|(index, _)| index)
 }
 
 // The instance under which an element goes on: the next after the one held, or the first where none is held.
