@@ -1,7 +1,7 @@
 -- Steps of loops over a table, and what a search finds. Assumes nothing.
-use Rattle.std.proofs.Common.{◌≡◌, ℕ, zero, suc, ◌+◌, ◌<◌, ◌≤◌, Bool, true, false, cond, ◌||◌, List, [], ◌∷◌, ◌++◌, length, get_or, take, drop, set, Some, None, Option, sym, refl, ap, ◌∙◌, subst, add-one, arith, take_all, inl, inr, MatchOption}
-use Rattle.std.proofs.lemmas.List.{append-nil, at_drop_more, at_drop_all, drop_all, set_past}
-use Rattle.std.proofs.lemmas.Bool.{cases_lt, cond-true, cond-false}
+use Rattle.std.proofs.Common.{◌≡◌, ℕ, zero, suc, ◌+◌, ◌<◌, ◌≤◌, Bool, true, false, cond, ◌||◌, List, [], ◌∷◌, ◌++◌, length, get_or, take, drop, set, Some, None, Option, sym, refl, ap, ◌∙◌, subst, add-one, arith, take_all, MatchOption}
+use Rattle.std.proofs.lemmas.List.{append-nil, at_drop_more, at_drop_all, drop_all}
+use Rattle.std.proofs.lemmas.Bool.{cond-true, cond-false}
 use Rattle.std.specs.List.{list_any}
 use Rattle.lines.specs.Tables.{first_where, some_where, First, map_from, by_place, in_turn}
 
@@ -23,14 +23,6 @@ or_is false e = e
 pub list_any_is : {X : Type 0} (p : X → Bool) (xs : List X) → list_any p xs ≡ some_where p xs
 list_any_is p [] = refl
 list_any_is p (x ∷ xs) = or_is (p x) (list_any_is p xs)
-
--- what stands at a place is changed, and a place past the end changes nothing
-pub changed_at : {X : Type 0} (f : X → X) (xs ys : List X) (i : ℕ) (d : X) → (length xs ≤ i → ys ≡ xs) → (i < length xs → (x : X) × (x ≡ f (get_or xs i d)) × (ys ≡ set xs i x)) → ys ≡ set xs i (f (get_or xs i d))
-changed_at f xs ys i d past within =
-    elim (cases_lt i (length xs)) [
-      | inl l ↦ let w = within l in w.2 ∙ ap (set xs i) w.1
-      | inr l ↦ past l ∙ sym (set_past xs i _ l)
-    ]
 
 module _ {X : Type 0} (p : X → Bool) where
   abbrev None-passes : List X → Type 0

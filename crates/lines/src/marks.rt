@@ -1,6 +1,5 @@
 // What a line's marks become.
-ghost use Rattle.std.specs.Prelude.{◌≡◌, ◌<◌, ◌≤◌, length, map, slice_index_or, slice_set};
-ghost use Rattle.std.specs.Fn.{FnOnceReturnsAtMut};
+ghost use Rattle.std.specs.Prelude.{◌≡◌, map, slice_index_or, slice_set};
 ghost use Rattle.places.specs.PlaceSets.{has};
 ghost use Rattle.places.specs.SendCounts.{raised};
 ghost use Rattle.lines.specs.Lines.{cleared_line, entered_on, initial_summary, is_down, is_past_negotiation, is_synchronizing, is_with, no_line, owing, negotiating_line, resend_limit, second_line, shown, some_owed, some_synchronizing};
@@ -9,6 +8,7 @@ ghost use Rattle.lines.specs.Tables.{some_where};
 use crate::line::{Line, OwnSummary, State};
 use packets::ids::NodeId;
 use places::count::SendCount;
+pub use places::row::{change_at, put};
 use places::set::PlaceSet;
 
 // Seconds after which a thing that was sent is due again.
@@ -128,25 +128,6 @@ fn raise_all(counts: &mut [SendCount])
     for sent in counts.iter_mut() {
         raise_one(sent);
     }
-}
-
-// What stands at the place of a row is changed; a place past the end has nothing to change.
-pub fn change_at<T, F: FnOnce(&mut T)>(row: &mut [T], place: usize, change: F)
-    requires { F.IsAlwaysCallable change }
-    ensures past { length row.old ≤ place → row.new ≡ row.old }
-    ensures within { place < length row.old → (d : T) → (after : T) × FnOnceReturnsAtMut F.FnOnce change (slice_index_or row.old place d) tt after × (row.new ≡ slice_set row.old place after) }
-{
-    // Stays: of a slice's `get_mut` a proof knows no element once the borrow is over.
-    if place < row.len() {
-        change(&mut row[place]);
-    }
-}
-
-// A place past the end has nothing to change.
-pub fn put<T: Copy>(row: &mut [T], place: usize, value: T)
-    ensures { row.new ≡ slice_set row.old place value }
-{
-    change_at(row, place, |held| *held = value);
 }
 
 pub fn enter_all(lines: &mut [Line], place: usize)

@@ -1,5 +1,6 @@
 -- What is in a set of places after a change. Assumes nothing.
 use Rattle.std.proofs.Common.{◌≡◌, ℕ, ◌<◌, ◌≤◌, Bool, true, false, cond, ltb, List, length, get_or, set, sym, refl, ap, ◌∙◌, subst, inl, inr, arith, length-set, get_or-set_other, get_or-set_same}
+use Rattle.std.proofs.lemmas.List.{set_past}
 use Rattle.std.proofs.lemmas.Bool.{cases_lt, cond-true, cond-false, lt-ltb, le-ltb}
 use Rattle.places.specs.declared.set.PlaceSet.{PlaceSet}
 use Rattle.places.specs.PlaceSets.{mark_at, marked, has, no_places, all_clear, with_place, without_place, Changed}
@@ -10,6 +11,13 @@ marked_within ms p m l = cond-true _ _ _ (lt-ltb p (length ms) l)
 
 marked_past : (ms : List Bool) (p : ℕ) (m : Bool) → length ms ≤ p → marked ms p m ≡ ms
 marked_past ms p m l = cond-false _ _ _ (le-ltb p (length ms) l)
+
+marked_is_set : (ms : List Bool) (p : ℕ) (m : Bool) → set ms p m ≡ marked ms p m
+marked_is_set ms p m =
+    elim (cases_lt p (length ms)) [
+      | inl l ↦ sym (marked_within ms p m l)
+      | inr l ↦ set_past ms p m l ∙ sym (marked_past ms p m l)
+    ]
 
 mark_here : (ms : List Bool) (p : ℕ) (m : Bool) → p < length ms → mark_at (marked ms p m) p ≡ m
 mark_here ms p m l =
@@ -54,12 +62,12 @@ unfolding without_place
 without_is s p = refl
 
 -- a set whose marks were written
-pub inserted : (s : PlaceSet) (p : ℕ) (ms : List Bool) → length s.marks ≡ 64 → ms ≡ marked s.marks p true → (of_marks ms ≡ with_place s p) × Changed s p true (of_marks ms)
+pub inserted : (s : PlaceSet) (p : ℕ) (ms : List Bool) → length s.marks ≡ 64 → ms ≡ set s.marks p true → (of_marks ms ≡ with_place s p) × Changed s p true (of_marks ms)
 inserted s p ms l e =
-    let q : of_marks ms ≡ with_place s p = ap of_marks e ∙ sym (with_is s p) in
+    let q : of_marks ms ≡ with_place s p = ap of_marks (e ∙ marked_is_set s.marks p true) ∙ sym (with_is s p) in
     (q, subst (Changed s p true) (sym q) (with_changes s p l))
 
-pub removed : (s : PlaceSet) (p : ℕ) (ms : List Bool) → length s.marks ≡ 64 → ms ≡ marked s.marks p false → (of_marks ms ≡ without_place s p) × Changed s p false (of_marks ms)
+pub removed : (s : PlaceSet) (p : ℕ) (ms : List Bool) → length s.marks ≡ 64 → ms ≡ set s.marks p false → (of_marks ms ≡ without_place s p) × Changed s p false (of_marks ms)
 removed s p ms l e =
-    let q : of_marks ms ≡ without_place s p = ap of_marks e ∙ sym (without_is s p) in
+    let q : of_marks ms ≡ without_place s p = ap of_marks (e ∙ marked_is_set s.marks p false) ∙ sym (without_is s p) in
     (q, subst (Changed s p false) (sym q) (without_changes s p l))

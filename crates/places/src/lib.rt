@@ -3,5 +3,6 @@
 
 pub mod count;
 pub mod list;
+pub mod row;
 pub mod set;
 pub mod store;

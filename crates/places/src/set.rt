@@ -2,6 +2,8 @@
 ghost use Rattle.std.specs.Prelude.{◌≡◌, true, false};
 ghost use Rattle.places.specs.PlaceSets.{Changed, all_clear, has, mark_at, marked, no_places, with_place, without_place};
 
+use crate::row::put;
+
 #[derive(Clone, Copy)]
 pub struct PlaceSet {
     marks: [bool; 64],
@@ -25,14 +27,14 @@ impl PlaceSet {
         ensures after { self.new ≡ with_place self.old place }
         ensures meaning { Changed self.old place true self.new }
     {
-        write_mark(&mut self.marks, place, true);
+        put(&mut self.marks, place, true);
     }
 
     pub fn remove(&mut self, place: usize)
         ensures after { self.new ≡ without_place self.old place }
         ensures meaning { Changed self.old place false self.new }
     {
-        write_mark(&mut self.marks, place, false);
+        put(&mut self.marks, place, false);
     }
 }
 
@@ -45,13 +47,5 @@ fn no_marks() -> [bool; 64]
 fn read_mark(marks: &[bool], at: usize) -> bool
     ensures { result ≡ mark_at marks.now at }
 {
-    if at < marks.len() { marks[at] } else { false }
-}
-
-fn write_mark(marks: &mut [bool], place: usize, mark: bool)
-    ensures { marks.new ≡ marked marks.old place mark }
-{
-    if place < marks.len() {
-        marks[place] = mark;
-    }
+    marks.get(at).copied().unwrap_or(false)
 }

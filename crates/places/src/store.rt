@@ -1,11 +1,52 @@
 // The bodies of elements, 256 bytes to a place. Emptying a body is by its length, and writes no byte of it.
-ghost use Rattle.std.specs.Prelude.{◌≡◌};
-ghost use Rattle.places.specs.BodyStores.{all_zero, body_at, emptied, no_bodies, stored};
+ghost use Rattle.std.specs.Prelude.{◌≡◌, ◌≤◌, length};
+ghost use Rattle.places.specs.BodyStores.{blank_body, body_at, bytes_of, cleared, emptied, filled, no_bodies, stored};
+
+use crate::row::change_at;
+
+#[derive(Clone, Copy)]
+struct Body {
+    bytes: [u8; 256],
+    length: u16,
+}
 
 #[derive(Drop)]
 pub struct BodyStore {
-    bytes: [[u8; 256]; 64],
-    lengths: [u16; 64],
+    bodies: [Body; 64],
+}
+
+impl Body {
+    fn blank() -> Body
+        ensures { result ≡ blank_body }
+    {
+        Body {
+            bytes: [0; 256],
+            length: 0,
+        }
+    }
+
+    fn bytes(&self) -> &[u8]
+        ensures { result.now ≡ bytes_of self.now }
+    {
+        self.bytes
+            .get(..usize::from(self.length))
+            .unwrap_or_default()
+    }
+
+    // What lies behind the new bytes stays.
+    fn fill(&mut self, bytes: &[u8])
+        requires { length bytes.now ≤ 256 }
+        ensures { self.new ≡ filled self.old bytes.now }
+    {
+        self.bytes[..bytes.len()].copy_from_slice(bytes);
+        self.length = bytes.len() as u16;
+    }
+
+    fn clear(&mut self)
+        ensures { self.new ≡ cleared self.old }
+    {
+        self.length = 0;
+    }
 }
 
 impl BodyStore {
@@ -13,8 +54,7 @@ impl BodyStore {
         ensures { result ≡ no_bodies }
     {
         BodyStore {
-            bytes: no_bytes(),
-            lengths: [0; 64],
+            bodies: [Body::blank(); 64],
         }
     }
 
@@ -22,39 +62,24 @@ impl BodyStore {
     pub fn body(&self, place: usize) -> &[u8]
         ensures { result.now ≡ body_at self.now place }
     {
-        if place >= 64 {
-            return &[];
+        match self.bodies.get(place) {
+            Some(body) => body.bytes(),
+            None => &[],
         }
-        let length = usize::from(self.lengths[place]);
-        if length > 256 {
-            return &[];
-        }
-        &self.bytes[place][0..length]
     }
 
     // The only function that writes bytes. What lies behind the body stays; a body above 256 bytes is not taken.
     pub fn write(&mut self, place: usize, body: &[u8])
         ensures { self.new ≡ stored self.old place body.now }
     {
-        if place >= 64 || body.len() > 256 {
-            return;
+        if body.len() <= 256 {
+            change_at(&mut self.bodies, place, |held| held.fill(body));
         }
-        self.lengths[place] = body.len() as u16;
-        let bytes = &mut self.bytes[place];
-        bytes[0..body.len()].copy_from_slice(body);
     }
 
     pub fn empty(&mut self, place: usize)
         ensures { self.new ≡ emptied self.old place }
     {
-        if place < 64 {
-            self.lengths[place] = 0;
-        }
+        change_at(&mut self.bodies, place, |held| held.clear());
     }
-}
-
-fn no_bytes() -> [[u8; 256]; 64]
-    ensures { result ≡ all_zero }
-{
-    [[0; 256]; 64]
 }

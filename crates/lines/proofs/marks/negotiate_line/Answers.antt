@@ -1,6 +1,6 @@
 use Rattle.std.proofs.Common.{rules}
 use Rattle.lines.specs.Lines.{negotiating_line, no_line}
-use Rattle.lines.proofs.TableLaws.{changed_at}
+use Rattle.places.proofs.RowLaws.{changed_at}
 use Rattle.lines.proofs.marks.negotiate_line.Goals as goal
 
 pub returns : goal.returns

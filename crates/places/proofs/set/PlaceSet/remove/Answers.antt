@@ -5,5 +5,5 @@ use Rattle.places.proofs.set.PlaceSet.remove.Goals as goal
 pub returns : goal.returns
 returns c =
     let l : length c.args.self.now.marks ≡ 64 = search rules in
-    let f = removed c.args.self.now c.args.place c.write_mark.new.marks l c.write_mark.ensures in
+    let f = removed c.args.self.now c.args.place c.put.new.row l c.put.ensures in
     record { after = f.0; meaning = f.1 }

@@ -1,5 +1,5 @@
-use Rattle.places.proofs.StoreLaws.{zeroed}
+use Rattle.places.proofs.StoreLaws.{all_blank}
 use Rattle.places.proofs.store.BodyStore.new.Goals as goal
 
 pub returns : goal.returns
-returns c = zeroed c.no_bytes.result c.no_bytes.ensures
+returns c = all_blank c.blank.result c.blank.ensures

@@ -1,6 +1,6 @@
 use Rattle.std.proofs.Common.{refl}
 use Rattle.std.proofs.lemmas.List.{get_or_default}
-use Rattle.lines.proofs.marks.change_at.Goals as goal
+use Rattle.places.proofs.row.change_at.Goals as goal
 
 pub returns-then-place-row-clause-within : goal.returns-then-place-row-clause-within
 returns-then-place-row-clause-within g c =

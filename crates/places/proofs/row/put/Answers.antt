@@ -1,6 +1,6 @@
 use Rattle.std.proofs.Common.{rules}
-use Rattle.lines.proofs.TableLaws.{changed_at}
-use Rattle.lines.proofs.marks.put.Goals as goal
+use Rattle.places.proofs.RowLaws.{changed_at}
+use Rattle.places.proofs.row.put.Goals as goal
 
 pub returns : goal.returns
 returns g c =
