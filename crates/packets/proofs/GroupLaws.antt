@@ -1,10 +1,10 @@
 -- Steps of a walk over the groups of a packet. Assumes nothing.
-use Rattle.std.proofs.Common.{◌≡◌, ℕ, zero, suc, ◌+◌, ◌-◌, ◌<◌, ◌≤◌, Bool, true, false, cond, eqb, List, [], ◌∷◌, length, take, drop, Some, None, Ok, Err, Option, Result, sym, refl, ap, ◌∙◌, arith, length-drop}
+use Rattle.std.proofs.Common.{◌≡◌, ℕ, zero, suc, ◌+◌, ◌-◌, ◌<◌, ◌≤◌, Bool, true, false, cond, eqb, List, [], ◌∷◌, length, take, drop, Some, None, Ok, Err, Option, Result, sym, refl, ap, subst, ◌∙◌, arith, length-drop}
 use Rattle.std.proofs.lemmas.List.{length-take-le}
 use Rattle.std.proofs.lemmas.Bool.{eqb-true, ltb-false, eq-eqb, ne_eqb, cond-true, cond-false}
 use Rattle.kinds.specs.BigEndian.{at16}
 use Rattle.std.specs.List.{AllByRecursion}
-use Rattle.std.specs.Result.{result_ok}
+use Rattle.std.specs.Result.{MatchResult, IsErrAnd, result_ok}
 use Rattle.packets.specs.declared.group.Group.{Group}
 use Rattle.packets.specs.declared.group.GroupFault.{GroupFault}
 use Rattle.packets.specs.declared.group.Misfit.{Misfit}
@@ -157,3 +157,14 @@ split_some (Err f) o g t bs e k s = absurd (let z : ◌≡◌ {A = ℕ} 0 1 = cc
 pub contents_none : (r : Result Group GroupFault) (o : Option Group) (t : PacketType) (bs : List ℕ) → viewed r ≡ split_group t bs → o ≡ result_ok r → o ≡ None → contents (length bs) t bs ≡ []
 contents_none (Ok h) o t bs e k s = absurd (let z : ◌≡◌ {A = ℕ} 0 1 = cc in omega arith)
 contents_none (Err f) o t bs e k s = contents_stop t (length bs) bs f e
+
+-- what the answer of `map_err` says of what it was called on
+pub mapped_ok : {T D E : Type 0} (r : Result T E) (m : Result T D) (x : T) (Q : E → D → Type 0) → MatchResult r (λ y. m ≡ Ok y) (λ e. IsErrAnd m (Q e)) → m ≡ Ok x → r ≡ Ok x
+mapped_ok (Ok y) m x Q h e = let p : Ok y ≡ m = sym h in ap Ok (let q : y ≡ x = cc in q)
+mapped_ok (Err f) (Ok y) x Q h e = absurd h
+mapped_ok (Err f) (Err d) x Q h e = absurd (let z : ◌≡◌ {A = ℕ} 0 1 = cc in omega arith)
+
+pub mapped_err : {T D E : Type 0} (r : Result T E) (m : Result T D) (d : D) (Q : E → D → Type 0) → MatchResult r (λ y. m ≡ Ok y) (λ e. IsErrAnd m (Q e)) → m ≡ Err d → (e : E) × ((r ≡ Err e) × Q e d)
+mapped_err (Ok y) m d Q h e = absurd (let z : ◌≡◌ {A = ℕ} 0 1 = cc in omega arith)
+mapped_err (Err f) (Ok y) d Q h e = absurd h
+mapped_err (Err f) (Err g) d Q h e = let p : g ≡ d = cc in (f, (refl, subst (Q f) p h))

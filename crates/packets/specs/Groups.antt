@@ -29,7 +29,8 @@ content_fault Acknowledgement content = count_fault content 22 12
 content_fault Summary content = count_fault content 38 16
 content_fault Request content = count_fault content 22 4
 
-abbrev pub unless : {T : Type 0} → Option GroupFault → T → Result T GroupFault
+-- an answer, unless there is a fault
+abbrev pub unless : {T E : Type 0} → Option E → T → Result T E
 unless None x = Ok x
 unless (Some f) x = Err f
 

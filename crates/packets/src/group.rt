@@ -1,7 +1,7 @@
 // The groups that fill a packet: one walker for all four packets.
 ghost use Rattle.std.specs.Prelude.{◌≡◌, ◌+◌, ◌<◌, ◌≤◌, length};
 ghost use Rattle.std.specs.Iterator.{YieldsFirstRef, item_count};
-ghost use Rattle.packets.specs.Groups.{content_fault, contents, count_fault, first_fault, groups_left, split_group, viewed};
+ghost use Rattle.packets.specs.Groups.{content_fault, contents, count_fault, first_fault, groups_left, split_group, unless, viewed};
 ghost use Rattle.packets.specs.Layouts.{group_fixed_of};
 
 use crate::layout::PacketType;
@@ -54,10 +54,8 @@ pub fn split_group<'a>(of: PacketType, bytes: &'a [u8]) -> Result<Group<'a>, Gro
     }
     let (group, rest) = bytes.split_at(length);
     let (_, content) = group.split_at(4);
-    match content_fault(of, content) {
-        Some(fault) => Err(fault),
-        None => Ok(Group { content, rest }),
-    }
+    check_content(of, content)?;
+    Ok(Group { content, rest })
 }
 
 // What each group holds, up to the first that breaks its layout.
@@ -89,56 +87,48 @@ impl<'a> Iterator for Groups<'a> {
     }
 }
 
-fn content_fault(of: PacketType, content: &[u8]) -> Option<GroupFault>
+fn check_content(of: PacketType, content: &[u8]) -> Result<(), GroupFault>
     requires { group_fixed_of of ≤ length content.now + 4 }
-    ensures { result ≡ content_fault of content.now }
+    ensures { result ≡ unless (content_fault of content.now) tt }
 {
     match of {
         PacketType::Bundle => {
             if content.len() > 272 || content.len() % 4 != 0 {
-                Some(GroupFault::Body)
+                Err(GroupFault::Body)
             } else {
-                None
+                Ok(())
             }
         }
-        PacketType::Acknowledgement => count_fault(content, 22, 12),
-        PacketType::Summary => count_fault(content, 38, 16),
-        PacketType::Request => count_fault(content, 22, 4),
+        PacketType::Acknowledgement => check_count(content, 22, 12),
+        PacketType::Summary => check_count(content, 38, 16),
+        PacketType::Request => check_count(content, 22, 4),
     }
 }
 
 // The count stands at `at`, and entries of one size follow it.
-fn count_fault(content: &[u8], at: usize, size: usize) -> Option<GroupFault>
+fn check_count(content: &[u8], at: usize, size: usize) -> Result<(), GroupFault>
     requires { (at + 1 < length content.now) × ((at < 64) × (size < 64)) }
-    ensures { result ≡ count_fault content.now at size }
+    ensures { result ≡ unless (count_fault content.now at size) tt }
 {
     let count = usize::from(u16::from_be_bytes([content[at], content[at + 1]]));
     if content.len() == at + 2 + count * size {
-        None
+        Ok(())
     } else {
-        Some(GroupFault::Count)
+        Err(GroupFault::Count)
     }
 }
 
-// The first group that breaks its layout, if one does.
-pub fn first_misfit(of: PacketType, bytes: &[u8]) -> Option<Misfit>
-    ensures { result ≡ first_fault (length bytes.now) of bytes.now }
+// Whether all groups keep their layout; the first that breaks it is told.
+pub fn check_groups(of: PacketType, bytes: &[u8]) -> Result<(), Misfit>
+    ensures { result ≡ unless (first_fault (length bytes.now) of bytes.now) tt }
 {
     let mut rest = bytes;
     while !rest.is_empty() {
-        match split_group(of, rest) {
-            Ok(group) => rest = group.rest,
-            Err(fault) => return Some(misfit_at(fault, rest)),
-        }
+        let group = split_group(of, rest).map_err(|fault| Misfit {
+            fault,
+            left: rest.len(),
+        })?;
+        rest = group.rest;
     }
-    None
-}
-
-fn misfit_at(fault: GroupFault, rest: &[u8]) -> Misfit
-    ensures { result ≡ record { fault = fault; left = length rest.now } }
-{
-    Misfit {
-        fault,
-        left: rest.len(),
-    }
+    Ok(())
 }

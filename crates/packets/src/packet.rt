@@ -1,9 +1,10 @@
 // A whole packet, read and checked.
 ghost use Rattle.std.specs.Prelude.{◌≡◌};
+ghost use Rattle.packets.specs.declared.packet.Fault.TheVariants.{Header};
 ghost use Rattle.packets.specs.Contents.{decode, groups_of, raw_type, part_of, raw, viewed_packet, viewed_part};
 
 use crate::bundle::Bundle;
-use crate::group::{GroupFault, first_misfit};
+use crate::group::{GroupFault, check_groups};
 use crate::header::{HeaderFault, read_header};
 use crate::layout::PacketType;
 use crate::summary::Summary;
@@ -29,6 +30,14 @@ pub enum Content<'a> {
 pub enum Fault {
     Header(HeaderFault),
     Group { fault: GroupFault, at: usize },
+}
+
+impl From<HeaderFault> for Fault {
+    ghost from_gives = { λ fault r. r ≡ Header fault };
+
+    fn from(fault: HeaderFault) -> Fault {
+        Fault::Header(fault)
+    }
 }
 
 impl<'a> Content<'a> {
@@ -70,25 +79,16 @@ impl<'a> Content<'a> {
 pub fn read(bytes: &[u8]) -> Result<Packet<'_>, Fault>
     ensures { viewed_packet result ≡ decode bytes.now }
 {
-    let header = match read_header(bytes) {
-        Ok(header) => header,
-        Err(fault) => return Err(Fault::Header(fault)),
-    };
-    let Some((_, part)) = bytes.split_first_chunk::<8>() else {
-        return Err(Fault::Header(HeaderFault::Short));
-    };
-    let Some(content) = Content::read(header.packet_type, part) else {
-        return Err(Fault::Header(HeaderFault::Cut));
-    };
-    match first_misfit(header.packet_type, content.groups()) {
-        Some(misfit) => Err(Fault::Group {
-            fault: misfit.fault,
-            at: bytes.len().saturating_sub(misfit.left),
-        }),
-        None => Ok(Packet {
-            newest: header.newest,
-            oldest: header.oldest,
-            content,
-        }),
-    }
+    let header = read_header(bytes)?;
+    let (_, part) = bytes.split_first_chunk::<8>().ok_or(HeaderFault::Short)?;
+    let content = Content::read(header.packet_type, part).ok_or(HeaderFault::Cut)?;
+    check_groups(header.packet_type, content.groups()).map_err(|misfit| Fault::Group {
+        fault: misfit.fault,
+        at: bytes.len().saturating_sub(misfit.left),
+    })?;
+    Ok(Packet {
+        newest: header.newest,
+        oldest: header.oldest,
+        content,
+    })
 }

@@ -1,6 +1,6 @@
 use Rattle.std.proofs.Common.{◌≡◌, ℕ, ◌≤◌, length}
 use Rattle.packets.specs.Groups.{first_fault}
-use Rattle.packets.proofs.group.first_misfit.Given as goal
+use Rattle.packets.proofs.group.check_groups.Given as goal
 
 abbrev pub invariant-loop-rest : goal.invariant-loop-rest
 invariant-loop-rest l =
