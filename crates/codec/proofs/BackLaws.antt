@@ -1,11 +1,11 @@
 -- What the steps of writing a packet back leave in the buffer. Assumes nothing.
-use Rattle.std.proofs.Common.{◌≡◌, ℕ, suc, ◌+◌, ◌-◌, ◌*◌, ◌%◌, ◌<◌, ◌≤◌, min, Bool, true, false, cond, ◌⊎◌, List, [], ◌∷◌, ◌++◌, map, length, get_or, take, drop, IfOk, Some, None, Ok, Err, Result, sym, refl, ap, ◌∙◌, subst, inl, inr, arith, length-append, w8, Fits, Bor}
-use Rattle.std.proofs.ByRecursion.{All-from_get_or, All-drop}
+use Rattle.std.proofs.Common.{◌≡◌, ℕ, zero, suc, ◌+◌, ◌-◌, ◌*◌, ◌%◌, ◌≤◌, min, true, ◌⊎◌, List, [], ◌∷◌, ◌++◌, map, length, get_or, take, drop, IfOk, None, Ok, Err, Result, sym, refl, ap, ◌∙◌, subst, inl, inr, arith, length-append, w8, Fits, Bor}
+use Rattle.std.proofs.ByRecursion.{All-from_get_or}
 use Rattle.std.proofs.lemmas.List.{append_assoc, append-nil, length-drop, length-take-le, drop-drop}
-use Rattle.std.proofs.lemmas.Bool.{le-leb, ltb-true, ltb-false, cond-true}
+use Rattle.std.proofs.lemmas.Bool.{cases_lt, le-leb, cond-true}
+use Rattle.std.specs.List.{AllByRecursion}
 use Rattle.kinds.specs.BigEndian.{at16, write16, write32}
 use Rattle.kinds.specs.Words.{Bytes}
-use Rattle.packets.specs.declared.group.GroupFault.{GroupFault}
 use Rattle.packets.specs.declared.header.HeaderFault.{HeaderFault}
 use Rattle.packets.specs.declared.packet.Content.{Content}
 use Rattle.packets.specs.declared.packet.Content.TheVariants as content
@@ -16,18 +16,17 @@ use Rattle.packets.specs.declared.layout.PacketType.TheVariants as type
 use Rattle.packets.specs.declared.summary.Description.{Description}
 use Rattle.packets.specs.Encodings.{acknowledged_bytes, described_bytes, description_bytes, element_bytes, encode, framed, headed, joined, requested_bytes}
 use Rattle.packets.specs.Cleared.{clear_content, clear_two}
-use Rattle.packets.specs.Groups.{Split, content_fault, contents, split_group}
+use Rattle.packets.specs.Groups.{content_fault, contents}
 use Rattle.packets.specs.Bundles.{element_at}
-use Rattle.packets.specs.Contents.{PacketView, Raw, acknowledged_group, decode, described_group, groups_of, raw_type, raw, requested_group, said, viewed_packet}
+use Rattle.packets.specs.Contents.{PacketView, Raw, acknowledged_group, decode, described_group, entries, groups_of, raw_type, raw, requested_group, said, viewed_packet}
 use Rattle.packets.specs.Contents.Raw.{bundle, acknowledgement, summary, request}
-use Rattle.packets.proofs.GroupLaws.{split_facts, split_shorter}
-use Rattle.packets.specs.Summaries.{description_at, description_of}
+use Rattle.packets.specs.Summaries.{description_at}
 use Rattle.packets.specs.Layouts.{group_fixed_of, group_number_of, number_of}
 use Rattle.writer.specs.declared.states.Finished.{Finished}
 use Rattle.writer.specs.declared.states.GroupOpen.{GroupOpen}
 use Rattle.writer.specs.declared.states.Open.{Open}
 use Rattle.codec.specs.Backs.{Back, again, cleared_entries, first_part, group_again, groups_again, second_part, view_of}
-use Rattle.codec.proofs.ClearedLaws.{again_clear, content_kept, contents_more, contents_stop, split_content, described_length, description_back, entries_enough, entries_more, entries_none, past_some, two_kept, written_back}
+use Rattle.codec.proofs.ClearedLaws.{again_clear, content_kept, described_length, description_back, entries_back, entries_enough, entries_more, entries_none, written_back}
 use Rattle.writer.proofs.WriterLaws.{pasted_none, pasted_twice, put_behind}
 use Rattle.writer.specs.Writers.{pasted, put16_at, fits_in, begin_bytes, begun, begun_bytes, group_bytes, grouped, grouped_bytes, closed, closed_bytes, finished, finished_bytes}
 
@@ -52,99 +51,9 @@ group_written at len t a b c es buffer e le =
     ∙ put_behind at (group_number_of t) (len + length es - at) content buffer (omega arith)
     ∙ ap (λ n. pasted at (write16 (group_number_of t) (write16 n content)) buffer) whole
 
--- how far descriptions were written: some bytes stand behind the group's start, and the rest is left
-pub record Described (es buffer₀ : List ℕ) (g₀ : GroupOpen) (rest buffer : List ℕ) (g : GroupOpen) : Type 0 where
-  pub steps : ℕ
-  pub done : List ℕ
-  pub enough : length rest ≤ steps
-  pub whole : length rest % 16 ≡ 0
-  pub bytes : Bytes rest
-  pub left : length done + length rest ≡ length es
-  pub all : done ++ cleared_entries steps rest ≡ cleared_entries (length es) es
-  pub stands : buffer ≡ pasted g₀.len done buffer₀
-  pub state : g ≡ record { start = g₀.start; len = g₀.len + length done }
-
 -- the bytes of a slice
 bytes_of : (xs : List ℕ) → ((i : ℕ) → Fits w8 (get_or xs i 0)) → Bytes xs
 bytes_of xs h = All-from_get_or _ xs 0 (λ i lt. (h i).fits)
-
--- no description is written yet
-pub described_none : (es buffer : List ℕ) (g : GroupOpen) → length es % 16 ≡ 0 → ((i : ℕ) → Fits w8 (get_or es i 0)) → Described es buffer g es buffer g
-described_none es buffer g e h = record {
-  steps = length es;
-  done = [];
-  enough = omega arith;
-  whole = e;
-  bytes = bytes_of es h;
-  left = omega arith;
-  all = refl;
-  stands = sym (pasted_none g.len buffer);
-  state = let n : g.len + 0 ≡ g.len = omega arith in ap (λ n. record { start = g.start; len = n }) (sym n);
-}
-
--- what an answer says of the test before it
-past_option : {X : Type 0} (b : Bool) (x y : X) → Some x ≡ cond b None (Some y) → (b ≡ false) × (x ≡ y)
-past_option true x y e = absurd (let z : ◌≡◌ {A = ℕ} 0 1 = cc in omega arith)
-past_option false x y e = (refl, cc)
-
--- what is known of a description that was split off
-record SplitOff (rest : List ℕ) (d : Description) (behind : List ℕ) : Type 0 where
-  least : 16 ≤ length rest
-  is : d ≡ description_at rest
-  follows : behind ≡ drop 16 rest
-  shorter : length behind + 16 ≡ length rest
-
-split_off : (rest : List ℕ) (d : Description) (behind : List ℕ) → Some (d, behind) ≡ description_of rest → SplitOff rest d behind
-split_off rest d behind e =
-    let p = past_option _ _ _ e in
-    let le : 16 ≤ length rest = ltb-false _ _ p.0 in
-    let b : behind ≡ drop 16 rest = ap (λ v. v.1) p.1 ∙ drop-drop 8 8 rest in
-    record {
-      least = le;
-      is = ap (λ v. v.0) p.1;
-      follows = b;
-      shorter = let l = ap length b ∙ length-drop 16 rest in omega arith;
-    }
-
--- what is left gets shorter
-pub split_less : (rest : List ℕ) (d : Description) (behind : List ℕ) → Some (d, behind) ≡ description_of rest → length behind < length rest
-split_less rest d behind e = let s = split_off rest d behind e in omega arith
-
--- a description was read, and is written
-pub described_more : (es buffer₀ : List ℕ) (g₀ : GroupOpen) (rest buffer : List ℕ) (g : GroupOpen) (d : Description) (behind out : List ℕ) (h : GroupOpen) → g₀.len + length es ≤ min (length buffer₀) 2048 → Described es buffer₀ g₀ rest buffer g → Some (d, behind) ≡ description_of rest → h ≡ record { start = g.start; len = g.len + 16 } → out ≡ pasted g.len (description_bytes d) buffer → Described es buffer₀ g₀ behind out h
-described_more es buffer₀ g₀ rest buffer g d behind out h room s e p q =
-    let o = split_off rest d behind e in
-    let k = s.steps - 1 in
-    let x = clear_two (take 16 rest) in
-    let t = length-take-le 16 rest o.least in
-    let l : length x ≡ 16 = two_kept (take 16 rest) (omega arith) ∙ t in
-    let la = length-append s.done x in
-    let n : s.steps ≡ suc k = omega (arith, o.least, s.enough) in
-    let first : cleared_entries s.steps rest ≡ x ++ cleared_entries k behind = ap (λ j. cleared_entries j rest) n ∙ ap joined (entries_more (λ ds. clear_two (take 16 ds)) 16 k rest o.least) ∙ ap (λ ds. x ++ cleared_entries k ds) (sym o.follows) in
-    let written : description_bytes d ≡ x = ap description_bytes o.is ∙ description_back rest o.least s.bytes in
-    let at : g.len ≡ g₀.len + length s.done = ap (λ v. v.len) s.state in
-    record {
-      steps = k;
-      done = s.done ++ x;
-      enough = omega (arith, o.shorter, s.enough);
-      whole = omega (arith, o.shorter, s.whole);
-      bytes = subst Bytes (sym o.follows) (All-drop _ 16 rest s.bytes);
-      left = omega (arith, o.shorter, s.left);
-      all = append_assoc s.done x (cleared_entries k behind) ∙ ap (λ ds. s.done ++ ds) (sym first) ∙ s.all;
-      stands = q ∙ ap (λ ds. pasted g.len ds buffer) written ∙ ap (pasted g.len x) s.stands ∙ pasted_twice g₀.len g.len s.done x buffer₀ at (omega (arith, s.left));
-      state = p ∙ same_group (ap (λ v. v.start) s.state) (omega arith);
-    }
-  where
-    same_group : {a b m n : ℕ} → a ≡ b → m ≡ n → ◌≡◌ {A = GroupOpen} (record { start = a; len = m }) (record { start = b; len = n })
-    same_group u v = cc
-
--- no description is left
-pub described_all : (es buffer₀ : List ℕ) (g₀ : GroupOpen) (rest buffer : List ℕ) (g : GroupOpen) → Described es buffer₀ g₀ rest buffer g → None ≡ description_of rest → (g ≡ record { start = g₀.start; len = g₀.len + length (cleared_entries (length es) es) }) × (buffer ≡ pasted g₀.len (cleared_entries (length es) es) buffer₀)
-described_all es buffer₀ g₀ rest buffer g s e =
-    let lt : length rest < 16 = ltb-true _ _ (past_some _ _ (sym e)) in
-    let none : cleared_entries s.steps rest ≡ [] = ap joined (entries_none (λ ds. clear_two (take 16 ds)) 16 s.steps rest lt) in
-    let d : s.done ≡ cleared_entries (length es) es = sym (append-nil s.done) ∙ ap (λ ds. s.done ++ ds) (sym none) ∙ s.all in
-    (s.state ∙ ap (λ ds. record { start = g₀.start; len = g₀.len + length ds }) d, s.stands ∙ ap (λ ds. pasted g₀.len ds buffer₀) d)
 
 -- a group begun, filled and closed
 pub pieces_written : (o r : Open) (g h : GroupOpen) (t : PacketType) (a b c ds buffer mid last out : List ℕ) → o.len + (4 + (length a + (length b + length c))) ≤ min (length buffer) 2048 → Ok g ≡ grouped o (length buffer) a b c → mid ≡ grouped_bytes o buffer t a b c → h ≡ record { start = g.start; len = g.len + length ds } → last ≡ pasted g.len ds mid → r ≡ closed h → out ≡ closed_bytes h last → (r ≡ record { len = o.len + length (framed t ((a ++ (b ++ c)) ++ ds)) }) × (out ≡ pasted o.len (framed t ((a ++ (b ++ c)) ++ ds)) buffer)
@@ -240,71 +149,85 @@ bare_begun r newest oldest o t buffer out n k s b = (
       ∙ sym (ap (begun_bytes buffer (raw_type r) newest oldest (first_part r)) n.1),
 )
 
--- how far groups were written: some bytes stand behind the draft's end, and the rest is left
-pub record Grouped (t : PacketType) (bs buffer₀ : List ℕ) (o₀ : Open) (rest buffer : List ℕ) (o : Open) : Type 0 where
-  pub steps : ℕ
+-- how far a list of parts was written: some bytes stand in the buffer, and the other parts are left
+pub record Written {X : Type 0} (f : X → List ℕ) (xs : List X) (at : ℕ) (buffer₀ : List ℕ) (left : List X) (buffer : List ℕ) (len : ℕ) : Type 0 where
   pub done : List ℕ
-  pub enough : length rest ≤ steps
-  pub all : done ++ groups_again steps t rest ≡ groups_again (length bs) t bs
-  pub stands : buffer ≡ pasted o₀.len done buffer₀
-  pub state : o ≡ record { len = o₀.len + length done }
+  pub all : done ++ joined (map f left) ≡ joined (map f xs)
+  pub stands : buffer ≡ pasted at done buffer₀
+  pub long : len ≡ at + length done
 
--- no group is written yet
-pub grouped_none : (t : PacketType) (bs buffer : List ℕ) (o : Open) → Grouped t bs buffer o bs buffer o
-grouped_none t bs buffer o = record {
-  steps = length bs;
-  done = [];
-  enough = omega arith;
-  all = refl;
-  stands = sym (pasted_none o.len buffer);
-  state = let n : o.len + 0 ≡ o.len = omega arith in ap (λ m. record { len = m }) (sym n);
-}
+-- nothing is written yet
+pub written_none : {X : Type 0} (f : X → List ℕ) (xs left : List X) (at : ℕ) (buffer : List ℕ) → left ≡ xs → Written f xs at buffer left buffer at
+written_none f xs left at buffer e = record { done = []; all = ap (λ ys. joined (map f ys)) e; stands = sym (pasted_none at buffer); long = omega arith }
 
-module _ (t : PacketType) (bs buffer₀ : List ℕ) (o₀ : Open) (rest buffer : List ℕ) (o : Open) (g : Grouped t bs buffer₀ o₀ rest buffer o) where
-  -- the first group that is left, and the groups behind it
-  first_left : (s : Split) → Ok s ≡ split_group t rest → groups_again g.steps t rest ≡ group_again t s.content ++ groups_again (g.steps - 1) t s.rest
-  first_left s e =
-      let l = split_shorter t rest s e in
-      let n : g.steps ≡ suc (g.steps - 1) = omega (arith, g.enough) in
-      ap (λ k. groups_again k t rest) n ∙ ap (λ cs. joined (map (group_again t) cs)) (contents_more t (g.steps - 1) rest s (omega arith) e)
+module _ {X : Type 0} (f : X → List ℕ) (xs : List X) (at : ℕ) (buffer₀ : List ℕ) (left : List X) (buffer : List ℕ) (len : ℕ) (w : Written f xs at buffer₀ left buffer len) where
+  -- there is room for a part that is left
+  pub written_fits : (x : X) (next : List X) → at + length (joined (map f xs)) ≤ min (length buffer₀) 2048 → left ≡ x ∷ next → len + length (f x) ≤ min (length buffer₀) 2048
+  written_fits x next room e =
+      let y = joined (map f next) in
+      let a = ap length (sym w.all ∙ ap (λ ys. w.done ++ joined (map f ys)) e) in
+      omega (arith, length-append w.done (f x ++ y), length-append (f x) y, w.long, a)
 
-  -- a group that was split off is sound, and there is room for it
-  pub group_fits : (n : ℕ) (s : Split) → o₀.len + length (groups_again (length bs) t bs) ≤ min n 2048 → Ok s ≡ split_group t rest → (content_fault t s.content ≡ None) × (group_fixed_of t ≤ 4 + length s.content) × (o.len + length (group_again t s.content) ≤ min n 2048)
-  group_fits n s room e =
-      let f = split_facts t rest s e in
-      let l = split_content t rest s e in
-      let x = group_again t s.content in
-      let y = groups_again (g.steps - 1) t s.rest in
-      let a = ap length (sym g.all ∙ ap (λ xs. g.done ++ xs) (first_left s e)) in
-      let i = length-append g.done (x ++ y) in
-      let j = length-append x y in
-      let at = ap (λ v. v.len) g.state in
-      (f.sound, omega (arith, f.least), omega arith)
-
-  -- a group was read, and is written
-  pub grouped_more : (s : Split) (h : Open) (out : List ℕ) → o₀.len + length (groups_again (length bs) t bs) ≤ min (length buffer₀) 2048 → Ok s ≡ split_group t rest → h ≡ record { len = o.len + length (group_again t s.content) } → out ≡ pasted o.len (group_again t s.content) buffer → Grouped t bs buffer₀ o₀ s.rest out h
-  grouped_more s h out room e p q =
-      let x = group_again t s.content in
-      let y = groups_again (g.steps - 1) t s.rest in
-      let l = split_shorter t rest s e in
-      let i = length-append g.done x in
-      let fit = (group_fits (length buffer₀) s room e).2 in
-      let at : o.len ≡ o₀.len + length g.done = ap (λ v. v.len) g.state in
+  -- a part is written
+  pub written_more : (x : X) (next : List X) (out : List ℕ) (m : ℕ) → at + length (joined (map f xs)) ≤ min (length buffer₀) 2048 → left ≡ x ∷ next → m ≡ len + length (f x) → out ≡ pasted len (f x) buffer → Written f xs at buffer₀ next out m
+  written_more x next out m room e p q =
+      let fit = written_fits x next room e in
       record {
-        steps = g.steps - 1;
-        done = g.done ++ x;
-        enough = omega (arith, g.enough);
-        all = append_assoc g.done x y ∙ ap (λ xs. g.done ++ xs) (sym (first_left s e)) ∙ g.all;
-        stands = q ∙ ap (pasted o.len x) g.stands ∙ pasted_twice o₀.len o.len g.done x buffer₀ at (omega arith);
-        state = p ∙ ap (λ m. record { len = m }) (let k : o.len + length x ≡ o₀.len + length (g.done ++ x) = omega arith in k);
+        done = w.done ++ f x;
+        all = append_assoc w.done (f x) (joined (map f next)) ∙ ap (λ ys. w.done ++ joined (map f ys)) (sym e) ∙ w.all;
+        stands = q ∙ ap (pasted len (f x)) w.stands ∙ pasted_twice at len w.done (f x) buffer₀ w.long (omega arith);
+        long = omega (arith, length-append w.done (f x), w.long);
       }
 
-  -- no group is left
-  pub grouped_all : (f : GroupFault) → Err f ≡ split_group t rest → (o ≡ record { len = o₀.len + length (groups_again (length bs) t bs) }) × (buffer ≡ pasted o₀.len (groups_again (length bs) t bs) buffer₀)
-  grouped_all f e =
-      let none : groups_again g.steps t rest ≡ [] = ap (λ cs. joined (map (group_again t) cs)) (contents_stop t g.steps rest f e) in
-      let d : g.done ≡ groups_again (length bs) t bs = sym (append-nil g.done) ∙ ap (λ xs. g.done ++ xs) (sym none) ∙ g.all in
-      (g.state ∙ ap (λ xs. record { len = o₀.len + length xs }) d, g.stands ∙ ap (λ xs. pasted o₀.len xs buffer₀) d)
+  -- nothing is left
+  pub written_all : left ≡ [] → (len ≡ at + length (joined (map f xs))) × (buffer ≡ pasted at (joined (map f xs)) buffer₀)
+  written_all e =
+      let d : w.done ≡ joined (map f xs) = sym (append-nil w.done) ∙ ap (λ ys. w.done ++ joined (map f ys)) (sym e) ∙ w.all in
+      (w.long ∙ ap (λ ds. at + length ds) d, w.stands ∙ ap (λ ds. pasted at ds buffer₀) d)
+
+-- an open group, by its two numbers
+pub same_group : {a b m n : ℕ} → a ≡ b → m ≡ n → ◌≡◌ {A = GroupOpen} (record { start = a; len = m }) (record { start = b; len = n })
+same_group u v = cc
+
+-- a description has 16 bytes
+abbrev pub Sixteen : Description → Type 0
+Sixteen d = length (description_bytes d) ≡ 16
+
+description_sixteen : (es : List ℕ) → 16 ≤ length es → Sixteen (description_at es)
+description_sixteen es le =
+    let l = length-take-le 8 (drop 8 es) (let d = length-drop 8 es in omega arith) in
+    omega (arith, l)
+
+pub descriptions_sixteen : (k : ℕ) (es : List ℕ) → AllByRecursion Sixteen (entries description_at 16 k es)
+unfolding entries
+descriptions_sixteen zero es = tt
+descriptions_sixteen (suc k) es =
+    elim (cases_lt (length es) 16) [
+      | inl lt ↦ subst (AllByRecursion Sixteen) (sym (entries_none description_at 16 (suc k) es lt)) tt
+      | inr le ↦ subst (AllByRecursion Sixteen) (sym (entries_more description_at 16 k es le)) (description_sixteen es le, descriptions_sixteen k (drop 16 es))
+    ]
+
+-- descriptions take no more than the bytes that they were read from
+descriptions_fit : (k : ℕ) (es : List ℕ) → length (joined (map description_bytes (entries description_at 16 k es))) ≤ length es
+unfolding entries
+descriptions_fit zero es = omega arith
+descriptions_fit (suc k) es =
+    elim (cases_lt (length es) 16) [
+      | inl lt ↦
+          let n = ap (λ xs. length (joined (map description_bytes xs))) (entries_none description_at 16 (suc k) es lt) in
+          omega (arith, n)
+      | inr le ↦
+          let n = ap (λ xs. length (joined (map description_bytes xs))) (entries_more description_at 16 k es le) in
+          let rest = joined (map description_bytes (entries description_at 16 k (drop 16 es))) in
+          omega (arith, n, length-append (description_bytes (description_at es)) rest, description_sixteen es le, descriptions_fit k (drop 16 es), length-drop 16 es)
+    ]
+
+pub descriptions_room : (at n k : ℕ) (es : List ℕ) → at + length es ≤ n → at + length (joined (map description_bytes (entries description_at 16 k es))) ≤ n
+descriptions_room at n k es le = let f = descriptions_fit k es in omega arith
+
+-- and are written with their reserved bytes zero
+pub descriptions_back : (k : ℕ) (es : List ℕ) → ((i : ℕ) → Fits w8 (get_or es i 0)) → joined (map description_bytes (entries description_at 16 k es)) ≡ cleared_entries k es
+descriptions_back k es typed = entries_back description_at description_bytes (λ ds. clear_two (take 16 ds)) 16 description_back k es (bytes_of es typed)
 
 -- one function behind another
 map-map : {X Y Z : Type 0} (f : Y → Z) (g : X → Y) (xs : List X) → map f (map g xs) ≡ map (λ x. f (g x)) xs

@@ -132,7 +132,7 @@ entries_length clear size same pos =
     (λ n xs es le e. length-append (clear es) (joined xs) ∙ (let s = same es le in let m = suc-mul n size in omega arith))
 
 -- entries that were read, written again
-entries_back : {X : Type 0} (at : List ℕ → X) (bytes : X → List ℕ) (clear : List ℕ → List ℕ) (size : ℕ) → ((es : List ℕ) → size ≤ length es → Bytes es → bytes (at es) ≡ clear es) → (k : ℕ) (es : List ℕ) → Bytes es → joined (map bytes (entries at size k es)) ≡ joined (entries clear size k es)
+pub entries_back : {X : Type 0} (at : List ℕ → X) (bytes : X → List ℕ) (clear : List ℕ → List ℕ) (size : ℕ) → ((es : List ℕ) → size ≤ length es → Bytes es → bytes (at es) ≡ clear es) → (k : ℕ) (es : List ℕ) → Bytes es → joined (map bytes (entries at size k es)) ≡ joined (entries clear size k es)
 unfolding entries
 entries_back at bytes clear size each zero es all = refl
 entries_back at bytes clear size each (suc k) es all =

@@ -6,11 +6,13 @@ ghost use Rattle.packets.specs.Encodings.{description_bytes, encode, framed};
 ghost use Rattle.packets.specs.Groups.{content_fault};
 ghost use Rattle.packets.specs.Layouts.{group_fixed_of};
 ghost use Rattle.writer.specs.Writers.{begun, begun_bytes, pasted};
+ghost use Rattle.codec.specs.declared.back.NotWritten.TheVariants as NotWritten;
 ghost use Rattle.codec.specs.Backs.{Back, Reason, back_answer, back_bytes, cleared_entries, first_part, group_again, groups_again, part_type, second_part, view_of};
 ghost use Rattle.codec.specs.Faithful.{Faithful};
 ghost use Rattle.codec.specs.Reports.{Reported};
 
-use packets::group::split_group;
+use packets::entry::Entries;
+use packets::group::Groups;
 use packets::header::HeaderFault;
 use packets::layout::PacketType;
 use packets::packet;
@@ -26,6 +28,14 @@ pub enum NotWritten {
     Room,
 }
 
+impl From<Fault> for NotWritten {
+    ghost from_gives = { λ fault r. r ≡ NotWritten.Fault fault };
+
+    fn from(fault: Fault) -> NotWritten {
+        NotWritten::Fault(fault)
+    }
+}
+
 pub fn write_back(bytes: &[u8], buffer: &mut [u8]) -> Result<usize, NotWritten>
     ensures answer { result ≡ back_answer (decode bytes.now) (length bytes.now) (length buffer.old) }
     ensures buffer { buffer.new ≡ back_bytes (decode bytes.now) (length bytes.now) buffer.old }
@@ -33,10 +43,7 @@ pub fn write_back(bytes: &[u8], buffer: &mut [u8]) -> Result<usize, NotWritten>
     ensures faithful { OnOk result (Faithful) }
     ensures reason { IfErr result (Reason bytes.now (length buffer.old)) }
 {
-    let packet = match read(bytes) {
-        Ok(packet) => packet,
-        Err(fault) => return Err(NotWritten::Fault(fault)),
-    };
+    let packet = read(bytes)?;
     if buffer.len() < bytes.len() {
         return Err(NotWritten::Room);
     }
@@ -117,10 +124,8 @@ fn write_groups(draft: Open, buffer: &mut [u8], of: PacketType, groups: &[u8]) -
     ensures bytes { buffer.new ≡ pasted draft.len (groups_again (length groups.now) of groups.now) buffer.old }
 {
     let mut draft = draft;
-    let mut rest = groups;
-    while let Ok(group) = split_group(of, rest) {
-        draft = write_group(draft, buffer, of, group.content);
-        rest = group.rest;
+    for content in Groups::new(of, groups) {
+        draft = write_group(draft, buffer, of, content);
     }
     draft
 }
@@ -184,10 +189,8 @@ fn write_descriptions(group: GroupOpen, buffer: &mut [u8], entries: &[u8]) -> Gr
     ensures bytes { buffer.new ≡ pasted group.len (cleared_entries (length entries.now) entries.now) buffer.old }
 {
     let mut group = group;
-    let mut rest = entries;
-    while let Some((description, behind)) = Description::split(rest) {
+    for description in Entries::<Description>::new(entries) {
         group = write_description(group, buffer, description);
-        rest = behind;
     }
     group
 }

@@ -1,30 +1,31 @@
-use Rattle.std.proofs.Common.{arith}
-use Rattle.packets.specs.Groups.{Split}
-use Rattle.packets.proofs.GroupLaws.{split_shorter}
-use Rattle.codec.proofs.BackLaws.{grouped_none, group_fits, grouped_more, grouped_all}
+use Rattle.std.proofs.Common.{sym, ap, ◌∙◌, subst, arith}
+use Rattle.std.specs.List.{AllByRecursion}
+use Rattle.packets.proofs.GroupLaws.{Kept, contents_kept}
+use Rattle.packets.specs.Groups.{groups_left}
+use Rattle.codec.proofs.BackLaws.{written_none, written_fits, written_more, written_all}
 use Rattle.codec.proofs.back.write_groups.Goals as goal
 
-pub loop-group-init : goal.loop-group-init
-loop-group-init c = grouped_none c.args.of c.args.groups.now c.args.buffer.now c.args.draft
+pub loop-content-init : goal.loop-content-init
+loop-content-init c =
+    let e = ap groups_left c.into_iter-content-iterator.ensures.into_iter_gives ∙ c.new-content-items.ensures in
+    (subst (AllByRecursion (Kept c.args.of)) (sym e) (contents_kept _ c.args.of c.args.groups.now), written_none _ _ _ _ _ e)
 
 pub write_group-draft-requires : goal.write_group-draft-requires
 write_group-draft-requires c =
-    let s : Split = record { content = c.in-Ok.group.content.now; rest = c.in-Ok.group.rest.now } in
-    let f = group_fits _ _ _ _ _ _ _ c.loop-group.invariant _ s c.requires c.in-Ok.ensures in
-    record { sound = f.0; least = f.1; room = omega (arith, f.2, c.loop-group.auto.buffer) }
+    let inv = c.loop-content.invariant in
+    let step = c.in-Some.ensures.steps in
+    let kept = (subst (AllByRecursion (Kept c.args.of)) step inv.0).0 in
+    let fit = written_fits _ _ _ _ _ _ _ inv.1 _ _ c.requires step in
+    record { sound = kept.sound; least = kept.least; room = omega (arith, fit, c.loop-content.auto.buffer) }
 
-pub loop-group-smaller : goal.loop-group-smaller
-loop-group-smaller c =
-    let s : Split = record { content = c.in-Ok.group.content.now; rest = c.in-Ok.group.rest.now } in
-    omega (arith, split_shorter c.args.of c.loop-group.rest.now s c.in-Ok.ensures)
-
-pub loop-group-preserved : goal.loop-group-preserved
-loop-group-preserved c =
-    let s : Split = record { content = c.in-Ok.group.content.now; rest = c.in-Ok.group.rest.now } in
-    let step = c.write_group-draft.ensures in
-    grouped_more _ _ _ _ _ _ _ c.loop-group.invariant s _ _ c.requires c.in-Ok.ensures step.state step.bytes
+pub loop-content-preserved : goal.loop-content-preserved
+loop-content-preserved c =
+    let inv = c.loop-content.invariant in
+    let step = c.in-Some.ensures.steps in
+    let wrote = c.write_group-draft.ensures in
+    ((subst (AllByRecursion (Kept c.args.of)) step inv.0).1, written_more _ _ _ _ _ _ _ inv.1 _ _ _ _ c.requires step (ap (λ o. o.len) wrote.state) wrote.bytes)
 
 pub returns : goal.returns
 returns c =
-    let g = grouped_all _ _ _ _ _ _ _ c.loop-group.invariant c.in_default.field-0 c.in_default.ensures in
-    record { state = g.0; bytes = g.1 }
+    let all = written_all _ _ _ _ _ _ _ c.loop-content.invariant.1 c.in-None.ensures.steps.0 in
+    record { state = ap (λ n. record { len = n }) all.0; bytes = all.1 }
