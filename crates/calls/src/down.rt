@@ -27,6 +27,7 @@ pub fn down<K: Kind>(
     take_down(node, elements, wants, line)
 }
 
+// Stays apart from `down`: the steps leave at several exits, and the laws follow once, from what all of them ensure.
 fn take_down<K: Kind>(
     node: &mut Node,
     elements: &mut [K],

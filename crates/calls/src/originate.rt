@@ -46,6 +46,7 @@ pub fn originate<K: Kind>(
     enter_own(node, elements, wants, origination)
 }
 
+// Stays apart from `originate`: the steps leave at several exits, and the laws follow once, from what all of them ensure.
 fn enter_own<K: Kind>(
     node: &mut Node,
     elements: &mut [K],
@@ -106,7 +107,9 @@ fn succeed<K: Kind>(
 {
     match node.find(name) {
         Some(place) => {
-            let new = elements[place].next(check, time).ok_or(Refusal::LastInstance)?;
+            let new = elements[place]
+                .next(check, time)
+                .ok_or(Refusal::LastInstance)?;
             Ok(Succession { place, new })
         }
         None => {

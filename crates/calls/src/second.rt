@@ -22,6 +22,7 @@ pub fn second<K: Kind>(node: &mut Node, elements: &mut [K], wants: &mut [K]) -> 
     pass_second(node, elements, wants)
 }
 
+// Stays apart from `second`: the steps leave at several exits, and the laws follow once, from what all of them ensure.
 fn pass_second<K: Kind>(node: &mut Node, elements: &mut [K], wants: &mut [K]) -> Result<(), Refusal>
     ensures answer { result ≡ second_answer (world node.old elements.old wants.old) }
     ensures node { node.new ≡ (second_left K.model (world node.old elements.old wants.old)).node }

@@ -29,6 +29,7 @@ pub fn up<K: Kind>(
     bring_up(node, elements, wants, line, neighbour, ds_number)
 }
 
+// Stays apart from `up`: the steps leave at several exits, and the laws follow once, from what all of them ensure.
 fn bring_up<K: Kind>(
     node: &mut Node,
     elements: &mut [K],

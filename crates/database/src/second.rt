@@ -36,7 +36,10 @@ impl Node {
         let Some(instance) = elements.get(place) else {
             return;
         };
-        if self.places[place].is_some() && instance.is_expired() && !marks::is_owed(&self.lines, place) {
+        if self.places[place].is_some()
+            && instance.is_expired()
+            && !marks::is_owed(&self.lines, place)
+        {
             self.remove(place);
         }
     }
@@ -56,7 +59,8 @@ impl Node {
         requires { place < 64 }
         ensures { world self.new elements.new wanted.now ≡ aged_at K.model place (world self.old elements.old wanted.now) }
     {
-        let (Some(element), Some(instance)) = (self.places[place], elements.get(place).copied()) else {
+        let (Some(element), Some(instance)) = (self.places[place], elements.get(place).copied())
+        else {
             return;
         };
         if instance.is_expired() {

@@ -1,19 +1,11 @@
 -- Places chosen one after the other. Assumes nothing.
-use Rattle.std.proofs.Common.{◌≡◌, ℕ, zero, suc, ◌+◌, ◌<◌, ◌≤◌, min, Bool, true, false, cond, List, [], ◌∷◌, ◌++◌, length, get_or, take, drop, Some, None, Option, sym, refl, ap, ◌∙◌, arith}
-use Rattle.std.proofs.lemmas.List.{append_assoc, append-nil, at_drop_more, at_drop_all, length-append}
+use Rattle.std.proofs.Common.{◌≡◌, ℕ, zero, suc, ◌+◌, ◌<◌, ◌≤◌, min, Bool, true, false, cond, List, [], ◌∷◌, ◌++◌, length, take, drop, Option, sym, refl, ap, ◌∙◌, arith}
+use Rattle.std.proofs.lemmas.List.{append_assoc, append-nil, at_drop_all, length-append}
 use Rattle.std.proofs.lemmas.Bool.{lt-ltb, le-ltb}
-use Rattle.places.specs.declared.set.PlaceSet.{PlaceSet}
 use Rattle.places.specs.PlaceLists.{kept}
-use Rattle.lines.specs.Progress.{with_each}
-use Rattle.tables.specs.declared.element.Element.{Element}
-use Rattle.exchange.specs.Acceptance.{with_held}
 use Rattle.exchange.specs.Selections.{chosen, first_places, passes, places_where}
 
 module _ {X : Type 0} (limit : ℕ) (f : ℕ → X → Bool) (xs : List (Option X)) (i : ℕ) where
-  pub chosen_more : (d : Option X) (ps qs us : List ℕ) (b : Bool) → i < length xs → chosen limit f i (drop i xs) ps ≡ us → b ≡ passes f i (get_or xs i d) → qs ≡ kept ps i b limit → chosen limit f (i + 1) (drop (i + 1) xs) qs ≡ us
-  chosen_more d ps qs us b lt inv h e =
-      ap (chosen limit f (i + 1) (drop (i + 1) xs)) (e ∙ ap (λ c. kept ps i c limit) h) ∙ sym (at_drop_more (λ ys. chosen limit f i ys ps) xs i d lt) ∙ inv
-
   pub chosen_all : (ps us : List ℕ) → length xs ≤ i → chosen limit f i (drop i xs) ps ≡ us → ps ≡ us
   chosen_all ps us le inv = sym (at_drop_all (λ ys. chosen limit f i ys ps) xs i le) ∙ inv
 
@@ -23,9 +15,6 @@ kept_more ps p limit b h l = let x = lt-ltb (length ps) (min limit 64) l in cc
 kept_full : (ps : List ℕ) (p limit : ℕ) (b : Bool) → min limit 64 ≤ length ps → kept ps p b limit ≡ ps
 kept_full ps p limit true l = let x = le-ltb (length ps) (min limit 64) l in cc
 kept_full ps p limit false l = refl
-
-kept_other : (ps : List ℕ) (p limit : ℕ) (b : Bool) → b ≡ false → kept ps p b limit ≡ ps
-kept_other ps p limit b h = cc
 
 module _ {X : Type 0} (limit : ℕ) (f : ℕ → X → Bool) where
   -- once there are as many as may be, nothing is added

@@ -40,7 +40,10 @@ pub fn first_marked(marks: &PlaceSet, places: &[Option<Element>]) -> PlaceList
 pub fn first_due_wants(line: usize, wants: &[Option<Want>]) -> PlaceList
     ensures { listed result ≡ first_places (due_want line) wants.now }
 {
-    first_places(wants, |_, want| want.line == line && want.count.is_due(RESEND_LIMIT))
+    first_places(
+        wants,
+        |_, want| want.line == line && want.count.is_due(RESEND_LIMIT),
+    )
 }
 
 // Every held place.
