@@ -2,6 +2,7 @@
 use Rattle.std.proofs.Common.{◌≡◌, ℕ, zero, suc, ◌<◌, Bool, true, false, cond, not, ◌&&◌, ltb, ◌⊎◌, List, [], ◌∷◌, length, get_or, set, Some, None, Option, sym, refl, ap, ◌∙◌, subst, inl, inr, arith}
 use Rattle.std.proofs.lemmas.List.{get_or-set_other}
 use Rattle.std.proofs.lemmas.Bool.{and_parts, cases_eq, cond_both, not-true, true≢false}
+use Rattle.std.proofs.lemmas.Option.{none-some}
 use Rattle.kinds.specs.Kinds.{Operations, is_expired}
 use Rattle.kinds.specs.Recency.{instance_at}
 use Rattle.tables.specs.declared.element.Element.{Element}
@@ -32,7 +33,7 @@ none_where p (x ∷ xs) e (suc i) d l = none_where p xs (neither (p x) (some_whe
 
 -- a place is not both free and held
 pub not_both : {X : Type 0} (o : Option X) (x : X) → o ≡ Some x → o ≡ None → ⊥
-not_both o x p q = let z : ◌≡◌ {A = ℕ} 0 1 = cc in omega arith
+not_both o x p q = none-some x (sym q ∙ p)
 
 -- lines stay, and a place is as it was, or its element was expired and owed to nobody
 pub record Dropped {I : Type 0} (ops : Operations I) (xs : List I) (before after : Node) : Type 0 where
