@@ -9,11 +9,13 @@ use Rattle.packets.specs.Contents.{PacketView}
 use Rattle.packets.specs.Encodings.{encode, framed, headed, joined}
 use Rattle.packets.specs.Layouts.{group_number_of, number_of}
 use Rattle.writer.specs.declared.states.GroupOpen.{GroupOpen}
-use Rattle.writer.specs.Writers.{pasted, put16_at, begin_bytes, group_bytes, closed_bytes}
-use Rattle.writer.proofs.WriterLaws.{pasted_none, pasted_twice, put_behind}
+use Rattle.writer.specs.declared.states.Finished.{Finished}
+use Rattle.writer.specs.declared.states.Open.{Open}
+use Rattle.writer.specs.Writers.{pasted, put16_at, begin_bytes, group_bytes, closed, closed_bytes, finished, finished_bytes}
+use Rattle.writer.proofs.WriterLaws.{pasted_twice, put_behind}
 use Rattle.exchange.specs.Selections.{group_at, groups_at}
 use Rattle.compose.specs.Composed.{composed, composed_length, needed}
-use Rattle.compose.specs.Framed.{groups_bytes, one_bytes}
+use Rattle.compose.specs.Framed.{Appended, groups_bytes, one_bytes}
 
 -- an element that may be missing and may hold nothing
 pub flatten_is : {X : Type 0} (x : Option (Option X)) → option_flatten x ≡ unwrap_or x None
@@ -26,18 +28,11 @@ pub record Leads (at : ℕ) (rest buffer : List ℕ) (from : ℕ) (all before : 
   pub bytes : pasted at rest buffer ≡ pasted from all before
 
 -- the first of what is left was written
-pub leads_more : (at : ℕ) (rest buffer : List ℕ) (from : ℕ) (all before x behind : List ℕ) (end : ℕ) (out : List ℕ) → Leads at rest buffer from all before → rest ≡ x ++ behind → end ≡ at + length x → out ≡ pasted at x buffer → end ≤ length buffer → Leads end behind out from all before
-leads_more at rest buffer from all before x behind end out s e p q le = record {
-  state = omega (arith, s.state, ap length e, length-append x behind);
-  bytes = ap (pasted end behind) q ∙ pasted_twice at end x behind buffer p le ∙ ap (λ ys. pasted at ys buffer) (sym e) ∙ s.bytes;
+pub leads_more : (at : ℕ) (rest buffer : List ℕ) (from : ℕ) (all before x behind : List ℕ) (end : ℕ) (out : List ℕ) → Leads at rest buffer from all before → rest ≡ x ++ behind → Appended at x buffer end out → end ≤ length buffer → Leads end behind out from all before
+leads_more at rest buffer from all before x behind end out s e w le = record {
+  state = omega (arith, s.state, w.state, ap length e, length-append x behind);
+  bytes = ap (pasted end behind) w.stands ∙ pasted_twice at end x behind buffer w.state le ∙ ap (λ ys. pasted at ys buffer) (sym e) ∙ s.bytes;
 }
-
--- nothing is left
-pub leads_all : (at : ℕ) (rest buffer : List ℕ) (from : ℕ) (all before : List ℕ) → Leads at rest buffer from all before → rest ≡ [] → (at ≡ from + length all) × (buffer ≡ pasted from all before)
-leads_all at rest buffer from all before s e = (
-  omega (arith, s.state, ap length e),
-  sym (pasted_none at buffer) ∙ ap (λ ys. pasted at ys buffer) (sym e) ∙ s.bytes,
-)
 
 -- how far the groups for some places were written
 pub record Grouped {X : Type 0} (f : ℕ → X → List ℕ) (most : ℕ → ℕ) (xs : List (Option X)) (ps : List ℕ) (from : ℕ) (before : List ℕ) (i at : ℕ) (buffer : List ℕ) : Type 0 where
@@ -69,9 +64,9 @@ module _ {X : Type 0} (f : ℕ → X → List ℕ) (most : ℕ → ℕ) (xs : Li
       }
 
   -- a held place takes its group
-  pub grouped_held : (x : X) (end : ℕ) (out : List ℕ) → get_or xs (get_or ps i 0) None ≡ Some x → end ≡ at + length (f (get_or ps i 0) x) → out ≡ pasted at (f (get_or ps i 0) x) buffer → end ≤ at + most (get_or ps i 0) → from + needed most ps ≤ length buffer → Grouped f most xs ps from before (i + 1) end out
-  grouped_held x end out held p q le room = record {
-    written = leads_more at _ buffer from _ before _ _ end out s.written (groups_more (Some x) held) p q (omega (arith, needed_more, s.room));
+  pub grouped_held : (x : X) (end : ℕ) (out : List ℕ) → get_or xs (get_or ps i 0) None ≡ Some x → Appended at (f (get_or ps i 0) x) buffer end out → end ≤ at + most (get_or ps i 0) → from + needed most ps ≤ length buffer → Grouped f most xs ps from before (i + 1) end out
+  grouped_held x end out held w le room = record {
+    written = leads_more at _ buffer from _ before _ _ end out s.written (groups_more (Some x) held) w (omega (arith, needed_more, s.room));
     room = omega (arith, needed_more, s.room);
   }
 
@@ -88,13 +83,20 @@ group_written at len t a b c es buffer e le =
     ∙ ap (λ n. pasted at (write16 (group_number_of t) (write16 n content)) buffer) whole
 
 -- a group opened, filled with some bytes and closed
-pub group_filled : (at : ℕ) (t : PacketType) (a b c es buffer mid last out : List ℕ) (g h : GroupOpen) → g ≡ record { start = at; len = at + (4 + (length a + (length b + length c))) } → mid ≡ pasted at (group_bytes t a b c) buffer → h ≡ record { start = g.start; len = g.len + length es } → last ≡ pasted g.len es mid → out ≡ closed_bytes h last → at + (4 + (length a + (length b + length c))) ≤ length buffer → out ≡ pasted at (framed t ((a ++ (b ++ c)) ++ es)) buffer
-group_filled at t a b c es buffer mid last out g h p m q l o le =
+pub group_filled : (at : ℕ) (t : PacketType) (a b c es all buffer mid last out : List ℕ) (g h : GroupOpen) (o : Open) → g ≡ record { start = at; len = at + (4 + (length a + (length b + length c))) } → mid ≡ pasted at (group_bytes t a b c) buffer → h.start ≡ g.start → Appended g.len es mid h.len last → o ≡ closed h → out ≡ closed_bytes h last → at + (4 + (length a + (length b + length c))) ≤ length buffer → framed t ((a ++ (b ++ c)) ++ es) ≡ all → Appended at all buffer o.len out
+group_filled at t a b c es all buffer mid last out g h o p m q w k x le e =
     let len = at + (4 + (length a + (length b + length c))) in
-    let k : h ≡ record { start = at; len = len + length es } = q ∙ ap (λ y. record { start = y.start; len = y.len + length es }) p in
-    o ∙ ap (λ y. closed_bytes y last) k
-    ∙ ap (put16_at (at + 2) (len + length es - at)) (l ∙ ap (λ y. pasted y.len es mid) p ∙ ap (pasted len es) m)
-    ∙ group_written at len t a b c es buffer refl le
+    let start : h.start ≡ at = q ∙ ap (λ y. y.start) p in
+    let long : h.len ≡ len + length es = w.state ∙ ap (λ y. y.len + length es) p in
+    let stands : last ≡ pasted len es (pasted at (group_bytes t a b c) buffer) = w.stands ∙ ap (λ y. pasted y.len es mid) p ∙ ap (pasted len es) m in
+    record {
+      state = omega (arith, long, ap (λ y. y.len) k, ap length e, length-append (a ++ (b ++ c)) es, length-append a (b ++ c), length-append b c);
+      stands = x ∙ ap (λ n. put16_at (n + 2) (h.len - n) last) start
+          ∙ ap (λ n. put16_at (at + 2) (n - at) last) long
+          ∙ ap (put16_at (at + 2) (len + length es - at)) stands
+          ∙ group_written at len t a b c es buffer refl le
+          ∙ ap (λ ys. pasted at ys buffer) e;
+    }
 
 -- places that take the same each
 pub needed_each : (n : ℕ) (ps : List ℕ) → needed (λ p. n) ps ≡ length ps * n
@@ -112,22 +114,26 @@ groups_framed {X} {G} t bytes g xs (p ∷ ps) =
     one (Some x) gs = refl
 
 -- a header begun, groups behind it, and the length put in: the packet
-pub packet_written : (t : PacketType) (a b gs buffer : List ℕ) (at len : ℕ) (mid last out : List ℕ) → at ≡ 8 + (length a + length b) → mid ≡ pasted 0 (begin_bytes t 1 1 a b) buffer → len ≡ at + length gs → last ≡ pasted at gs mid → out ≡ put16_at 2 len last → at ≤ length buffer → out ≡ pasted 0 (headed t 1 1 ((a ++ b) ++ gs)) buffer
-packet_written t a b gs buffer at len mid last out e m f l o le =
+pub packet_written : (t : PacketType) (a b gs buffer : List ℕ) (at : ℕ) (o : Open) (mid last out : List ℕ) (f : Finished) → at ≡ 8 + (length a + length b) → mid ≡ pasted 0 (begin_bytes t 1 1 a b) buffer → Appended at gs mid o.len last → f ≡ finished o → out ≡ finished_bytes o last → at ≤ length buffer → Appended 0 (headed t 1 1 ((a ++ b) ++ gs)) buffer f.len out
+packet_written t a b gs buffer at o mid last out f e m w k x le =
     let part = (a ++ (b ++ [])) ++ gs in
     let same : part ≡ (a ++ b) ++ gs = ap (λ xs. (a ++ xs) ++ gs) (append-nil b) in
     let i = length-append a (b ++ []) in
     let j = length-append b [] in
-    let k = length-append (a ++ (b ++ [])) gs in
-    let n : len ≡ 8 + length part = omega arith in
-    o ∙ ap (put16_at 2 len) (l ∙ ap (pasted at gs) m ∙ pasted_twice 0 at (begin_bytes t 1 1 a b) gs buffer (omega arith) le)
-    ∙ put_behind 0 (number_of t) len (1 ∷ 1 ∷ 1 ∷ 0 ∷ part) buffer (omega arith)
-    ∙ ap (λ m. pasted 0 (write16 (number_of t) (write16 m (1 ∷ 1 ∷ 1 ∷ 0 ∷ part))) buffer) n
-    ∙ ap (λ xs. pasted 0 (headed t 1 1 xs) buffer) same
+    let l = length-append (a ++ (b ++ [])) gs in
+    let n : o.len ≡ 8 + length part = omega (arith, w.state) in
+    record {
+      state = omega (arith, n, ap (λ y. y.len) k, ap length same);
+      stands = x ∙ ap (put16_at 2 o.len) (w.stands ∙ ap (pasted at gs) m ∙ pasted_twice 0 at (begin_bytes t 1 1 a b) gs buffer (omega arith) le)
+          ∙ put_behind 0 (number_of t) o.len (1 ∷ 1 ∷ 1 ∷ 0 ∷ part) buffer (omega arith)
+          ∙ ap (λ m. pasted 0 (write16 (number_of t) (write16 m (1 ∷ 1 ∷ 1 ∷ 0 ∷ part))) buffer) n
+          ∙ ap (λ xs. pasted 0 (headed t 1 1 xs) buffer) same;
+    }
 
 -- what is written where the guard holds
-pub written_whole : (fits : Bool) (view : PacketView) (bytes buffer : List ℕ) (n : ℕ) (out : List ℕ) → fits ≡ true → encode view ≡ bytes → n ≡ length bytes → out ≡ pasted 0 bytes buffer → (n ≡ composed_length fits view) × (out ≡ composed fits view buffer)
-written_whole fits view bytes buffer n out holds e l o = (
-  l ∙ sym (ap length e) ∙ sym (cond-true _ _ _ holds),
-  o ∙ sym (ap (λ ys. pasted 0 ys buffer) e) ∙ sym (cond-true _ _ _ holds),
-)
+pub written_whole : (fits : Bool) (view : PacketView) (bytes buffer : List ℕ) (n : ℕ) (out : List ℕ) → fits ≡ true → encode view ≡ bytes → Appended 0 bytes buffer n out → (n ≡ composed_length fits view) × (out ≡ composed fits view buffer)
+written_whole fits view bytes buffer n out holds e w =
+    let l : n ≡ length bytes = omega (arith, w.state) in (
+      l ∙ sym (ap length e) ∙ sym (cond-true _ _ _ holds),
+      w.stands ∙ sym (ap (λ ys. pasted 0 ys buffer) e) ∙ sym (cond-true _ _ _ holds),
+    )

@@ -1,5 +1,5 @@
 -- The bytes of our own packets' groups. Assumes nothing.
-use Rattle.std.specs.Prelude.{ℕ, ◌+◌, ◌≤◌, min, List, [], ◌∷◌, ◌++◌, length, Some, None, Option, slice_index_or}
+use Rattle.std.specs.Prelude.{◌≡◌, ℕ, ◌+◌, ◌≤◌, min, List, [], ◌∷◌, ◌++◌, length, Some, None, Option, slice_index_or}
 use Rattle.kinds.specs.Kinds.{Operations}
 use Rattle.packets.specs.declared.acknowledgement.Acknowledged.{Acknowledged}
 use Rattle.packets.specs.declared.ids.NodeId.{NodeId}
@@ -8,6 +8,7 @@ use Rattle.packets.specs.Encodings.{acknowledged_bytes, described_bytes, element
 use Rattle.places.specs.declared.store.BodyStore.{BodyStore}
 use Rattle.tables.specs.declared.element.Element.{Element}
 use Rattle.tables.specs.declared.want.Want.{Want}
+use Rattle.writer.specs.Writers.{pasted}
 use Rattle.exchange.specs.Bundling.{element_out}
 use Rattle.exchange.specs.Handing.{requested}
 use Rattle.exchange.specs.Summaries.{description_of}
@@ -15,6 +16,11 @@ use Rattle.exchange.specs.Summaries.{description_of}
 -- more bytes fit behind a packet of some length, within the buffer and the longest packet
 abbrev pub HasRoom : ℕ → ℕ → List ℕ → Type 0
 HasRoom len more buffer = len + more ≤ min (length buffer) 2048
+
+-- some bytes stand behind a packet of some length, which now ends behind them
+pub record Appended (len : ℕ) (bytes before : List ℕ) (end : ℕ) (after : List ℕ) : Type 0 where
+  pub state : end ≡ len + length bytes
+  pub stands : after ≡ pasted len bytes before
 
 -- the bytes for one place, none where it is free
 abbrev pub one_bytes : {X : Type 0} → (ℕ → X → List ℕ) → ℕ → Option X → List ℕ

@@ -3,7 +3,7 @@ ghost use Rattle.std.specs.Prelude.{◌≡◌, ◌+◌, ◌*◌, ◌≤◌, map,
 ghost use Rattle.packets.specs.Encodings.{encode, entry_bytes, joined};
 ghost use Rattle.writer.specs.Writers.{pasted};
 ghost use Rattle.compose.specs.Composed.{acknowledgement_content, composed, composed_length, few_entries};
-ghost use Rattle.compose.specs.Framed.{HasRoom, acknowledgement_group};
+ghost use Rattle.compose.specs.Framed.{Appended, HasRoom, acknowledgement_group};
 
 use crate::frame::{add_entry, begin, open_group};
 use packets::acknowledgement::Acknowledged;
@@ -30,8 +30,7 @@ pub fn write_acknowledgement(buffer: &mut [u8], node: NodeId, entries: &[Acknowl
 fn write_group(draft: Open, buffer: &mut [u8], node: NodeId, entries: &[Acknowledged]) -> Open
     requires few { length entries.now ≤ 100 }
     requires room { HasRoom draft.len (28 + length entries.now * 12) buffer.old }
-    ensures state { result.len ≡ draft.len + length (acknowledgement_group node entries.now) }
-    ensures bytes { buffer.new ≡ pasted draft.len (acknowledgement_group node entries.now) buffer.old }
+    ensures { Appended draft.len (acknowledgement_group node entries.now) buffer.old result.len buffer.new }
 {
     let count = (entries.len() as u16).to_be_bytes();
     let group = open_group(
@@ -45,12 +44,11 @@ fn write_group(draft: Open, buffer: &mut [u8], node: NodeId, entries: &[Acknowle
     write_entries(group, buffer, entries).close(buffer)
 }
 
-fn write_entries(group: GroupOpen, buffer: &mut [u8], entries: &[Acknowledged]) -> GroupOpen
+fn write_entries(mut group: GroupOpen, buffer: &mut [u8], entries: &[Acknowledged]) -> GroupOpen
     requires { HasRoom group.len (length entries.now * 12) buffer.old }
-    ensures state { result ≡ record { start = group.start; len = group.len + length (joined (map entry_bytes entries.now)) } }
-    ensures bytes { buffer.new ≡ pasted group.len (joined (map entry_bytes entries.now)) buffer.old }
+    ensures start { result.start ≡ group.start }
+    ensures written { Appended group.len (joined (map entry_bytes entries.now)) buffer.old result.len buffer.new }
 {
-    let mut group = group;
     for entry in entries {
         group = write_entry(group, buffer, *entry);
     }
@@ -59,9 +57,9 @@ fn write_entries(group: GroupOpen, buffer: &mut [u8], entries: &[Acknowledged]) 
 
 fn write_entry(group: GroupOpen, buffer: &mut [u8], entry: Acknowledged) -> GroupOpen
     requires { HasRoom group.len 12 buffer.old }
-    ensures state { result ≡ record { start = group.start; len = group.len + 12 } }
-    ensures long { length (entry_bytes entry) ≡ 12 }
-    ensures bytes { buffer.new ≡ pasted group.len (entry_bytes entry) buffer.old }
+    ensures start { result.start ≡ group.start }
+    ensures written { Appended group.len (entry_bytes entry) buffer.old result.len buffer.new }
+    ensures long { result.len ≡ group.len + 12 }
 {
     let Acknowledged { number, instance } = entry;
     add_entry(group, buffer, &number.to_be_bytes(), &instance)

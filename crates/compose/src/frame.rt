@@ -4,7 +4,7 @@ ghost use Rattle.std.specs.Prelude.{◌≡◌, ℕ, ◌+◌, ◌≤◌, List, �
 ghost use Rattle.packets.specs.Encodings.{framed, headed};
 ghost use Rattle.writer.specs.Writers.{begin_bytes, group_bytes, pasted};
 ghost use Rattle.compose.specs.Composed.{needed};
-ghost use Rattle.compose.specs.Framed.{HasRoom, groups_bytes};
+ghost use Rattle.compose.specs.Framed.{Appended, HasRoom, groups_bytes};
 
 use packets::layout::PacketType;
 use writer::states::{GroupOpen, Open};
@@ -25,8 +25,7 @@ pub(crate) trait WriteGroup {
 
     fn write_group(&self, draft: Open, buffer: &mut [u8], place: usize, held: Self::Record) -> Open
         requires { HasRoom draft.len (most self.now place) buffer.old }
-        ensures state { result.len ≡ draft.len + length (bytes self.now place held) }
-        ensures bytes { buffer.new ≡ pasted draft.len (bytes self.now place held) buffer.old }
+        ensures written { Appended draft.len (bytes self.now place held) buffer.old result.len buffer.new }
         ensures short { result.len ≤ draft.len + most self.now place };
 }
 
@@ -41,8 +40,7 @@ pub(crate) fn write_packet<W: WriteGroup>(
     chosen: &[usize],
 ) -> usize
     requires { HasRoom (8 + (length first.now + length second.now)) (needed (W.most groups.now) chosen.now) buffer.old }
-    ensures length { result ≡ length (headed of 1 1 ((first.now ++ second.now) ++ groups_bytes (W.bytes groups.now) table.now chosen.now)) }
-    ensures buffer { buffer.new ≡ pasted 0 (headed of 1 1 ((first.now ++ second.now) ++ groups_bytes (W.bytes groups.now) table.now chosen.now)) buffer.old }
+    ensures { Appended 0 (headed of 1 1 ((first.now ++ second.now) ++ groups_bytes (W.bytes groups.now) table.now chosen.now)) buffer.old result buffer.new }
 {
     let draft = begin(buffer, of, first, second);
     let draft = write_groups(draft, buffer, groups, table, chosen);
@@ -50,17 +48,15 @@ pub(crate) fn write_packet<W: WriteGroup>(
 }
 
 fn write_groups<W: WriteGroup>(
-    draft: Open,
+    mut draft: Open,
     buffer: &mut [u8],
     groups: &W,
     table: &[Option<W::Record>],
     chosen: &[usize],
 ) -> Open
     requires { HasRoom draft.len (needed (W.most groups.now) chosen.now) buffer.old }
-    ensures state { result.len ≡ draft.len + length (groups_bytes (W.bytes groups.now) table.now chosen.now) }
-    ensures bytes { buffer.new ≡ pasted draft.len (groups_bytes (W.bytes groups.now) table.now chosen.now) buffer.old }
+    ensures { Appended draft.len (groups_bytes (W.bytes groups.now) table.now chosen.now) buffer.old result.len buffer.new }
 {
-    let mut draft = draft;
     for place in chosen {
         let Some(held) = table.get(*place).copied().flatten() else {
             continue;
@@ -105,8 +101,7 @@ pub(crate) fn write_pieces(
     third: &[u8],
 ) -> Open
     requires { HasRoom draft.len (4 + (length first.now + (length second.now + length third.now))) buffer.old }
-    ensures state { result.len ≡ draft.len + length (framed of (first.now ++ (second.now ++ third.now))) }
-    ensures bytes { buffer.new ≡ pasted draft.len (framed of (first.now ++ (second.now ++ third.now))) buffer.old }
+    ensures written { Appended draft.len (framed of (first.now ++ (second.now ++ third.now))) buffer.old result.len buffer.new }
     ensures long { result.len ≡ draft.len + (4 + (length first.now + (length second.now + length third.now))) }
 {
     open_group(draft, buffer, of, first, second, third).close(buffer)
@@ -120,8 +115,8 @@ pub(crate) fn add_entry(
     second: &[u8],
 ) -> GroupOpen
     requires { HasRoom group.len (length first.now + length second.now) buffer.old }
-    ensures state { result ≡ record { start = group.start; len = group.len + length (first.now ++ second.now) } }
-    ensures bytes { buffer.new ≡ pasted group.len (first.now ++ second.now) buffer.old }
+    ensures start { result.start ≡ group.start }
+    ensures written { Appended group.len (first.now ++ second.now) buffer.old result.len buffer.new }
 {
     group.add(buffer, first, second).unwrap()
 }

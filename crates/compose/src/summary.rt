@@ -4,7 +4,7 @@ ghost use Rattle.packets.specs.declared.layout.PacketType.TheVariants.{Summary};
 ghost use Rattle.packets.specs.Encodings.{framed};
 ghost use Rattle.writer.specs.Writers.{pasted};
 ghost use Rattle.compose.specs.Composed.{composed, composed_length, few, summary_content};
-ghost use Rattle.compose.specs.Framed.{HasRoom, described_group, description_group};
+ghost use Rattle.compose.specs.Framed.{Appended, HasRoom, described_group, description_group};
 
 use crate::frame::{MOST, WriteGroup, add_entry, open_group, write_packet};
 use kinds::kind::Kind;
@@ -62,8 +62,7 @@ impl<'a, K: Kind> WriteGroup for DescriptionGroups<'a, K> {
 
 fn write_description(draft: Open, buffer: &mut [u8], element: Element, instance: [u8; 8]) -> Open
     requires { HasRoom draft.len 60 buffer.old }
-    ensures state { result.len ≡ draft.len + length (described_group element instance) }
-    ensures bytes { buffer.new ≡ pasted draft.len (described_group element instance) buffer.old }
+    ensures written { Appended draft.len (described_group element instance) buffer.old result.len buffer.new }
     ensures short { result.len ≤ draft.len + 60 }
 {
     let Element {
@@ -93,8 +92,7 @@ fn write_group(
     instance: &[u8],
 ) -> Open
     requires { HasRoom draft.len (8 + (length node.now + (length group.now + (length numbers.now + length instance.now)))) buffer.old }
-    ensures state { result.len ≡ draft.len + length (framed Summary (node.now ++ (group.now ++ (0 ∷ 0 ∷ 0 ∷ 1 ∷ (numbers.now ++ instance.now))))) }
-    ensures bytes { buffer.new ≡ pasted draft.len (framed Summary (node.now ++ (group.now ++ (0 ∷ 0 ∷ 0 ∷ 1 ∷ (numbers.now ++ instance.now))))) buffer.old }
+    ensures written { Appended draft.len (framed Summary (node.now ++ (group.now ++ (0 ∷ 0 ∷ 0 ∷ 1 ∷ (numbers.now ++ instance.now))))) buffer.old result.len buffer.new }
     ensures long { result.len ≡ draft.len + (8 + (length node.now + (length group.now + (length numbers.now + length instance.now)))) }
 {
     let open = open_group(

@@ -14,6 +14,5 @@ returns g c =
     let node = c.args.node in
     let group = c.args.group in
     let buffer = c.args.buffer.now in
-    let packet = c.write_packet.ensures in
-    let w = written_whole (short bodies chosen buffer) (bundle_content ops places bodies elements node group chosen) _ buffer _ _ (search rules) (bundle_parts ops places elements bodies node group chosen) packet.length packet.buffer in
+    let w = written_whole (short bodies chosen buffer) (bundle_content ops places bodies elements node group chosen) _ buffer _ _ (search rules) (bundle_parts ops places elements bodies node group chosen) c.write_packet.ensures in
     record { written = w.0; buffer = w.1 }

@@ -17,4 +17,4 @@ pub loop-place-preserved : goal.loop-place-preserved
 loop-place-preserved g c =
     let held = c.flatten.ensures ∙ flatten_is c.copied.result ∙ ap (λ x. unwrap_or x None) c.copied.ensures ∙ c.get.ensures.lookup.4 (omega arith) None in
     let step = c.write_group-draft.ensures in
-    grouped_held _ _ _ _ _ _ _ _ _ c.loop-place.invariant c.loop-place-test.true _ _ _ (sym held ∙ c.in-Some.is) step.state step.bytes step.short (omega (arith, c.requires, c.loop-place.auto.buffer))
+    grouped_held _ _ _ _ _ _ _ _ _ c.loop-place.invariant c.loop-place-test.true _ _ _ (sym held ∙ c.in-Some.is) step.written step.short (omega (arith, c.requires, c.loop-place.auto.buffer))

@@ -12,6 +12,5 @@ returns c =
     let wants = c.args.wants.now in
     let chosen = c.args.chosen.now in
     let buffer = c.args.buffer.now in
-    let packet = c.write_packet.ensures in
-    let w = written_whole (few chosen buffer) (request_content wants chosen) _ buffer _ _ (search rules) (request_parts wants chosen) packet.length packet.buffer in
+    let w = written_whole (few chosen buffer) (request_content wants chosen) _ buffer _ _ (search rules) (request_parts wants chosen) c.write_packet.ensures in
     record { written = w.0; buffer = w.1 }
