@@ -1,5 +1,6 @@
 -- What the steps of writing a packet back leave in the buffer. Assumes nothing.
-use Rattle.std.proofs.Common.{◌≡◌, ℕ, zero, suc, ◌+◌, ◌-◌, ◌*◌, ◌%◌, ◌≤◌, min, true, ◌⊎◌, List, [], ◌∷◌, ◌++◌, map, length, get_or, take, drop, IfOk, None, Ok, Err, Result, sym, refl, ap, ◌∙◌, subst, inl, inr, arith, length-append, w8, Fits, Bor}
+use Rattle.std.proofs.Common.{◌≡◌, ℕ, zero, suc, ◌+◌, ◌-◌, ◌*◌, ◌≤◌, min, true, ◌⊎◌, List, [], ◌∷◌, ◌++◌, map, length, get_or, take, drop, IfOk, None, Ok, Err, Result, sym, ap, ◌∙◌, subst, inl, inr, arith, length-append, w8, Fits}
+use mathlib.Core.List.{map-map}
 use Rattle.std.proofs.ByRecursion.{All-from_get_or}
 use Rattle.std.proofs.lemmas.List.{append_assoc, append-nil, length-drop, length-take-le, drop-drop}
 use Rattle.std.proofs.lemmas.Bool.{cases_lt, le-leb, cond-true}
@@ -7,8 +8,6 @@ use Rattle.std.specs.List.{AllByRecursion}
 use Rattle.kinds.specs.BigEndian.{at16, write16, write32}
 use Rattle.kinds.specs.Words.{Bytes}
 use Rattle.packets.specs.declared.header.HeaderFault.{HeaderFault}
-use Rattle.packets.specs.declared.packet.Content.{Content}
-use Rattle.packets.specs.declared.packet.Content.TheVariants as content
 use Rattle.packets.specs.declared.packet.Fault.{Fault}
 use Rattle.packets.specs.declared.packet.Packet.{Packet}
 use Rattle.packets.specs.declared.layout.PacketType.{PacketType}
@@ -18,7 +17,7 @@ use Rattle.packets.specs.Encodings.{acknowledged_bytes, described_bytes, descrip
 use Rattle.packets.specs.Cleared.{clear_content, clear_two}
 use Rattle.packets.specs.Groups.{content_fault, contents}
 use Rattle.packets.specs.Bundles.{element_at}
-use Rattle.packets.specs.Contents.{PacketView, Raw, acknowledged_group, decode, described_group, entries, groups_of, raw_type, raw, requested_group, said, viewed_packet}
+use Rattle.packets.specs.Contents.{PacketView, Raw, acknowledged_group, decode, described_group, entries, groups_of, raw_type, requested_group, said, viewed_packet}
 use Rattle.packets.specs.Contents.Raw.{bundle, acknowledgement, summary, request}
 use Rattle.packets.specs.Summaries.{description_at}
 use Rattle.packets.specs.Layouts.{group_fixed_of, group_number_of, number_of}
@@ -26,7 +25,8 @@ use Rattle.writer.specs.declared.states.Finished.{Finished}
 use Rattle.writer.specs.declared.states.GroupOpen.{GroupOpen}
 use Rattle.writer.specs.declared.states.Open.{Open}
 use Rattle.codec.specs.Backs.{Back, again, cleared_entries, first_part, group_again, groups_again, second_part, view_of}
-use Rattle.codec.proofs.ClearedLaws.{again_clear, content_kept, described_length, description_back, entries_back, entries_enough, entries_more, entries_none, written_back}
+use Rattle.packets.proofs.EntryLaws.{entries_enough, entries_more, entries_none}
+use Rattle.codec.proofs.ClearedLaws.{again_clear, content_kept, described_length, description_back, entries_back, written_back}
 use Rattle.writer.proofs.WriterLaws.{pasted_none, pasted_twice, put_behind}
 use Rattle.writer.specs.Writers.{pasted, put16_at, fits_in, begin_bytes, begun, begun_bytes, group_bytes, grouped, grouped_bytes, closed, closed_bytes, finished, finished_bytes}
 
@@ -74,7 +74,6 @@ pieces_written o r g h t a b c ds buffer mid last out room e m u v w x =
 
 -- three pieces and descriptions that make up a group
 pub record Pieces (t : PacketType) (content a b d es : List ℕ) : Type 0 where
-  pub whole : length es % 16 ≡ 0
   pub long : 4 + (length a + (length b + (length d + length es))) ≡ length (group_again t content)
   pub bytes : framed t ((a ++ (b ++ d)) ++ cleared_entries (length es) es) ≡ group_again t content
 
@@ -84,11 +83,11 @@ no_entries = ap joined (entries_none (λ ds. clear_two (take 16 ds)) 16 0 [] (om
 
 module _ (t : PacketType) (c : List ℕ) (sound : content_fault t c ≡ None) (least : group_fixed_of t ≤ 4 + length c) (typed : (i : ℕ) → Fits w8 (get_or c i 0)) where
   -- pieces that make up the content with its reserved bytes zero make up the group
-  pieces_of : (a b d es : List ℕ) → length es % 16 ≡ 0 → length a + (length b + (length d + length es)) ≡ length c → (a ++ (b ++ d)) ++ cleared_entries (length es) es ≡ clear_content t c → Pieces t c a b d es
-  pieces_of a b d es w l e =
+  pieces_of : (a b d es : List ℕ) → length a + (length b + (length d + length es)) ≡ length c → (a ++ (b ++ d)) ++ cleared_entries (length es) es ≡ clear_content t c → Pieces t c a b d es
+  pieces_of a b d es l e =
       let s = again_clear t c sound least (bytes_of c typed) in
       let k : length (again t c) ≡ length c = ap length s ∙ content_kept t c sound least in
-      record { whole = w; long = omega arith; bytes = ap (framed t) (e ∙ sym s) }
+      record { long = omega arith; bytes = ap (framed t) (e ∙ sym s) }
 
   -- an element: what comes before its reserved bytes, and what comes behind them
   pub bundle_pieces : (a r d : List ℕ) → t ≡ type.Bundle → a ≡ take 2 c → r ≡ drop 2 c → d ≡ drop 2 r → Pieces t c a (0 ∷ 0 ∷ []) d []
@@ -97,7 +96,7 @@ module _ (t : PacketType) (c : List ℕ) (sound : content_fault t c ≡ None) (l
       let i = ap length p ∙ length-take-le 2 c (omega arith) in
       let f : d ≡ drop 4 c = u ∙ ap (drop 2) q ∙ drop-drop 2 2 c in
       let j = ap length f ∙ length-drop 4 c in
-      pieces_of a (0 ∷ 0 ∷ []) d [] refl (omega arith)
+      pieces_of a (0 ∷ 0 ∷ []) d [] (omega arith)
       (ap (λ xs. (a ++ (0 ∷ 0 ∷ d)) ++ xs) no_entries ∙ append-nil (a ++ (0 ∷ 0 ∷ d))
       ∙ ap (λ xs. xs ++ (0 ∷ 0 ∷ d)) p ∙ ap (λ xs. take 2 c ++ (0 ∷ 0 ∷ xs)) f ∙ sym (ap (λ v. clear_content v c) e))
 
@@ -114,7 +113,7 @@ module _ (t : PacketType) (c : List ℕ) (sound : content_fault t c ≡ None) (l
       let h = described_length c (sym (ap (λ x. content_fault x c) e) ∙ sound) (omega arith) in
       let m : length es ≡ at16 c 38 * 16 = ap length g ∙ h in
       let y : cleared_entries (length es) es ≡ cleared_entries (length c) (drop 40 c) = ap joined (entries_enough (λ ds. clear_two (take 16 ds)) 16 (omega arith) (length es) (length c) es (omega arith) (omega arith)) ∙ ap (cleared_entries (length c)) g in
-      pieces_of a (0 ∷ 0 ∷ []) d es (omega arith) (omega arith)
+      pieces_of a (0 ∷ 0 ∷ []) d es (omega arith)
       (append_assoc a (0 ∷ 0 ∷ d) (cleared_entries (length es) es)
       ∙ ap (λ xs. xs ++ (0 ∷ 0 ∷ (d ++ cleared_entries (length es) es))) p
       ∙ ap (λ xs. take 36 c ++ (0 ∷ 0 ∷ (xs ++ cleared_entries (length es) es))) (v ∙ ap (take 2) f)
@@ -124,7 +123,7 @@ module _ (t : PacketType) (c : List ℕ) (sound : content_fault t c ≡ None) (l
   -- a content with nothing reserved is one piece
   pub plain_pieces : (t ≡ type.Acknowledgement) ⊎ (t ≡ type.Request) → Pieces t c c [] [] []
   plain_pieces e =
-      pieces_of c [] [] [] refl (omega arith) (ap (λ xs. (c ++ []) ++ xs) no_entries ∙ append-nil (c ++ []) ∙ append-nil c ∙ sym (kept e))
+      pieces_of c [] [] [] (omega arith) (ap (λ xs. (c ++ []) ++ xs) no_entries ∙ append-nil (c ++ []) ∙ append-nil c ∙ sym (kept e))
     where
       kept : (t ≡ type.Acknowledgement) ⊎ (t ≡ type.Request) → clear_content t c ≡ c
       kept (inl p) = ap (λ v. clear_content v c) p
@@ -134,20 +133,6 @@ module _ (t : PacketType) (c : List ℕ) (sound : content_fault t c ≡ None) (l
 pub pieces_group : {t : PacketType} {content a b d es : List ℕ} (at : ℕ) (r : Open) (buffer out : List ℕ) → Pieces t content a b d es → r ≡ record { len = at + length (framed t ((a ++ (b ++ d)) ++ cleared_entries (length es) es)) } → out ≡ pasted at (framed t ((a ++ (b ++ d)) ++ cleared_entries (length es) es)) buffer → (r ≡ record { len = at + length (group_again t content) }) × (out ≡ pasted at (group_again t content) buffer)
 pieces_group at r buffer out p e f =
     (e ∙ ap (λ xs. record { len = at + length xs }) p.bytes, f ∙ ap (λ xs. pasted at xs buffer) p.bytes)
-
--- an acknowledgement and a request have nothing between the header and the groups
-pub bare : (c : Content) → ((x : Bor (List ℕ)) × (c ≡ content.Acknowledgement x)) ⊎ ((x : Bor (List ℕ)) × (c ≡ content.Request x)) → (first_part (raw c) ≡ []) × (second_part (raw c) ≡ [])
-bare c (inl (x, e)) = (ap (λ v. first_part (raw v)) e, ap (λ v. second_part (raw v)) e)
-bare c (inr (x, e)) = (ap (λ v. first_part (raw v)) e, ap (λ v. second_part (raw v)) e)
-
--- and are begun by their header alone
-pub bare_begun : (r : Raw) (newest oldest : ℕ) (o : Result Open HeaderFault) (t : PacketType) (buffer out : List ℕ) → (first_part r ≡ []) × (second_part r ≡ []) → t ≡ raw_type r → o ≡ begun (length buffer) [] [] → out ≡ begun_bytes buffer t newest oldest [] [] → (o ≡ begun (length buffer) (first_part r) (second_part r)) × (out ≡ begun_bytes buffer (raw_type r) newest oldest (first_part r) (second_part r))
-bare_begun r newest oldest o t buffer out n k s b = (
-  s ∙ sym (ap (λ xs. begun (length buffer) xs []) n.0) ∙ sym (ap (begun (length buffer) (first_part r)) n.1),
-  b ∙ ap (λ v. begun_bytes buffer v newest oldest [] []) k
-      ∙ sym (ap (λ xs. begun_bytes buffer (raw_type r) newest oldest xs []) n.0)
-      ∙ sym (ap (begun_bytes buffer (raw_type r) newest oldest (first_part r)) n.1),
-)
 
 -- how far a list of parts was written: some bytes stand in the buffer, and the other parts are left
 pub record Written {X : Type 0} (f : X → List ℕ) (xs : List X) (at : ℕ) (buffer₀ : List ℕ) (left : List X) (buffer : List ℕ) (len : ℕ) : Type 0 where
@@ -229,11 +214,6 @@ descriptions_room at n k es le = let f = descriptions_fit k es in omega arith
 pub descriptions_back : (k : ℕ) (es : List ℕ) → ((i : ℕ) → Fits w8 (get_or es i 0)) → joined (map description_bytes (entries description_at 16 k es)) ≡ cleared_entries k es
 descriptions_back k es typed = entries_back description_at description_bytes (λ ds. clear_two (take 16 ds)) 16 description_back k es (bytes_of es typed)
 
--- one function behind another
-map-map : {X Y Z : Type 0} (f : Y → Z) (g : X → Y) (xs : List X) → map f (map g xs) ≡ map (λ x. f (g x)) xs
-map-map f g [] = refl
-map-map f g (x ∷ xs) = ap (λ ys. f (g x) ∷ ys) (map-map f g xs)
-
 -- contents written from what was read of them
 contents_again : {G : Type 0} (t : PacketType) (at : List ℕ → G) (bytes : G → List ℕ) (cs : List (List ℕ)) → joined (map (framed t) (map bytes (map at cs))) ≡ joined (map (λ c. framed t (bytes (at c))) cs)
 contents_again t at bytes cs = ap joined (ap (map (framed t)) (map-map bytes at cs) ∙ map-map (framed t) (λ c. bytes (at c)) cs)
@@ -292,13 +272,6 @@ module _ (r : Raw) (newest oldest n : ℕ) (room : length (encode (packet_of r n
   -- there is room for its header
   begin_fits : fits_in 0 n (8 + (length (first_part r) + (length (second_part r) + 0))) ≡ true
   begin_fits = let l = encode_long in fits 0 n _ (omega arith)
-
-  -- so that its header is not declined
-  pub begins : (f : HeaderFault) → Err f ≡ begun n (first_part r) (second_part r) → ⊥
-  begins f e =
-      let h = e ∙ cond-true _ _ _ begin_fits in
-      let z : ◌≡◌ {A = ℕ} 0 1 = cc in
-      omega arith
 
   -- the draft ends behind the fixed part
   draft_long : (o : Open) → Ok o ≡ begun n (first_part r) (second_part r) → o.len ≡ 8 + length (first_part r) + length (second_part r)

@@ -1,8 +1,8 @@
 -- A packet that was read is written back, its reserved bytes zero. Assumes nothing.
-use Rattle.std.proofs.Common.{◌≡◌, ℕ, zero, suc, ◌+◌, ◌-◌, ◌*◌, ◌<◌, ◌≤◌, Bool, true, false, cond, eqb, ltb, List, [], ◌∷◌, ◌++◌, map, length, get_or, take, drop, Some, None, Ok, Err, Option, Result, sym, refl, ap, ◌∙◌, subst, inl, inr, suc-mul, zero-mul, le-mul_of_pos_right, arith, take-add}
+use Rattle.std.proofs.Common.{◌≡◌, ℕ, zero, suc, ◌+◌, ◌-◌, ◌*◌, ◌<◌, ◌≤◌, Bool, true, false, cond, ltb, List, [], ◌∷◌, ◌++◌, map, length, get_or, take, drop, Some, None, Ok, Err, Option, Result, sym, refl, ap, ◌∙◌, subst, inl, inr, suc-mul, zero-mul, le-mul_of_pos_right, arith, take-add}
 use Rattle.std.proofs.ByRecursion.{All-get_or, All-take, All-drop}
 use Rattle.std.proofs.lemmas.List.{append_assoc, append-nil, take-append-drop, length-append, length-drop, length-take-le, drop-drop, drop_more, nil_from_length}
-use Rattle.std.proofs.lemmas.Bool.{eqb-true, ltb-false, eq-eqb, ne_eqb, le-ltb, lt-ltb, cases_Bool, cases_lt, cond-true, cond-false}
+use Rattle.std.proofs.lemmas.Bool.{eqb-true, ltb-false, eq-eqb, ne_eqb, cases_Bool, cases_lt, cond-true, cond-false}
 use Rattle.std.proofs.lemmas.Bool.Decides.{nat_tests}
 use Rattle.kinds.specs.BigEndian.{at16, at32, write16, write32}
 use Rattle.kinds.specs.Words.{Bytes, bytes16, bytes32}
@@ -18,13 +18,14 @@ use Rattle.packets.specs.Cleared.{clear_two, clear_content, clear_group, clear_g
 use Rattle.packets.specs.Contents.Raw.{bundle, acknowledgement, summary, request}
 use Rattle.packets.specs.Contents.{Raw, Said, PacketView, said, groups_of, part_of, checked, decode_part, decode_header, decode, entries, acknowledged_group, described_group, requested_group}
 use Rattle.packets.specs.Encodings.{joined, element_bytes, entry_bytes, description_bytes, number_bytes, acknowledged_bytes, described_bytes, requested_bytes, said_type, said_fixed, said_contents, framed, headed, encode}
-use Rattle.packets.specs.Groups.{Split, count_fault, content_fault, split_group, after_group, first_fault, before_misfit, contents}
+use Rattle.packets.specs.Groups.{Split, count_fault, content_fault, split_group, after_group, first_fault, contents}
 use Rattle.packets.specs.Headers.{typed_header, header_of}
 use Rattle.packets.specs.Layouts.{number_of, type_of, group_number_of, group_fixed_of}
 use Rattle.packets.specs.Requests.{number_at}
 use Rattle.packets.specs.Summaries.{description_at}
 use Rattle.codec.specs.Backs.{Back, again}
-use Rattle.packets.proofs.GroupLaws.{past_fault, past_else, fixed_least, split_facts, split_shorter}
+use Rattle.packets.proofs.EntryLaws.{entries_more, entries_none}
+use Rattle.packets.proofs.GroupLaws.{contents_more, past_fault, past_else, fixed_least, split_facts, split_shorter}
 
 -- a list of eight or more is its first eight and the rest
 front : (P : List ℕ → Type 0) → ((a b c d e f g h : ℕ) (rest : List ℕ) → P (a ∷ b ∷ c ∷ d ∷ e ∷ f ∷ g ∷ h ∷ rest)) → (bs : List ℕ) → 8 ≤ length bs → P bs
@@ -79,43 +80,21 @@ entry_back es le all = back32 es (take 8 (drop 4 es)) (omega arith) all ∙ sym 
 number_back : (es : List ℕ) → 4 ≤ length es → Bytes es → number_bytes (number_at es) ≡ take 4 es
 number_back es le all = back32 es [] le all ∙ append-nil (take 4 es)
 
--- entries of one size, one more and none
+-- entries of one size
 module _ {X : Type 0} (at : List ℕ → X) (size : ℕ) where
-  pub entries_more : (k : ℕ) (es : List ℕ) → size ≤ length es → entries at size (suc k) es ≡ at es ∷ entries at size k (drop size es)
-  unfolding entries
-  entries_more k es le = cond-false _ _ _ (le-ltb (length es) size le)
-
-  pub entries_none : (k : ℕ) (es : List ℕ) → length es < size → entries at size k es ≡ []
-  unfolding entries
-  entries_none zero es lt = refl
-  entries_none (suc k) es lt = cond-true _ _ _ (lt-ltb (length es) size lt)
-
-  -- a number that is at least that of the entries gives all of them
-  pub entries_enough : 0 < size → (j k : ℕ) (es : List ℕ) → length es ≤ j → length es ≤ k → entries at size j es ≡ entries at size k es
-  entries_enough pos zero k es lj lk = entries_none zero es (omega arith) ∙ sym (entries_none k es (omega arith))
-  entries_enough pos (suc j) zero es lj lk = entries_none (suc j) es (omega arith) ∙ sym (entries_none zero es (omega arith))
-  entries_enough pos (suc j) (suc k) es lj lk =
-      elim (cases_lt (length es) size) [
-        | inl lt ↦
-            entries_none (suc j) es lt ∙ sym (entries_none (suc k) es lt)
-        | inr le ↦
-            let l = length-drop size es in
-            entries_more j es le ∙ ap (λ xs. at es ∷ xs) (entries_enough pos j k (drop size es) (omega arith) (omega arith)) ∙ sym (entries_more k es le)
-      ]
-
   -- what holds of no entries, and of one more, holds of the entries that fill some bytes
   by_entries : (P : ℕ → List X → List ℕ → Type 0) → 0 < size → P 0 [] [] → ((n : ℕ) (xs : List X) (es : List ℕ) → size ≤ length es → P n xs (drop size es) → P (suc n) (at es ∷ xs) es) → (n k : ℕ) (es : List ℕ) → length es ≡ n * size → n ≤ k → P n (entries at size k es) es
   by_entries P pos none more zero k es e le =
       let z : length es ≡ 0 = e ∙ zero-mul size in
       let h : es ≡ [] = nil_from_length es z in
-      let i : entries at size k es ≡ [] = entries_none k es (omega arith) in
+      let i : entries at size k es ≡ [] = entries_none at size k es (omega arith) in
       subst (λ xs. P 0 xs es) (sym i) (subst (λ ys. P 0 [] ys) (sym h) none)
   by_entries P pos none more (suc n) zero es e le = absurd (omega arith)
   by_entries P pos none more (suc n) (suc k) es e le =
       let m = suc-mul n size in
       let h : size ≤ length es = omega arith in
       let l : length (drop size es) ≡ n * size = length-drop size es ∙ omega arith in
-      subst (λ xs. P (suc n) xs es) (sym (entries_more k es h)) (more n (entries at size k (drop size es)) es h (by_entries P pos none more n k (drop size es) l (omega arith)))
+      subst (λ xs. P (suc n) xs es) (sym (entries_more at size k es h)) (more n (entries at size k (drop size es)) es h (by_entries P pos none more n k (drop size es) l (omega arith)))
 
   -- as many as there are
   entries_count : 0 < size → (n k : ℕ) (es : List ℕ) → length es ≡ n * size → n ≤ k → length (entries at size k es) ≡ n
@@ -268,22 +247,6 @@ module _ (t : PacketType) where
   contents_none zero bs e = refl
   contents_none (suc k) bs e = cond-true _ _ _ (eq-eqb (length bs) 0 e)
 
-  pub contents_more : (k : ℕ) (bs : List ℕ) (s : Split) → 0 < length bs → Ok s ≡ split_group t bs → contents (suc k) t bs ≡ s.content ∷ contents k t s.rest
-  unfolding contents
-  contents_more k bs s lt e =
-      cond-false _ _ _ (ne_eqb (length bs) 0 (λ z. omega arith)) ∙ sym (ap (before_misfit (contents k t)) e)
-
-  -- a group that breaks its layout ends the contents
-  pub contents_stop : (k : ℕ) (bs : List ℕ) (f : GroupFault) → Err f ≡ split_group t bs → contents k t bs ≡ []
-  unfolding contents
-  contents_stop zero bs f e = refl
-  contents_stop (suc k) bs f e =
-      sym (ap (λ r. cond (eqb (length bs) 0) [] (before_misfit (contents k t) r)) e) ∙ either (eqb (length bs) 0)
-    where
-      either : (b : Bool) → cond {A = List (List ℕ)} b [] [] ≡ []
-      either true = refl
-      either false = refl
-
   fault_past : (k : ℕ) (bs : List ℕ) → 0 < length bs → None ≡ first_fault (suc k) t bs → (s : Split) × (Ok s ≡ split_group t bs) × (None ≡ first_fault k t s.rest)
   unfolding first_fault
   fault_past k bs lt e =
@@ -300,7 +263,7 @@ module _ (t : PacketType) where
       let s = g.0 in
       let h = split_shorter t (b ∷ bs) s g.1 in
       let r = by_groups P none more j k s.rest (omega arith) (omega arith) g.2 in
-      subst (λ cs. P cs (clear_groups (suc k) t (b ∷ bs)) (b ∷ bs)) (sym (contents_more j (b ∷ bs) s (omega arith) g.1))
+      subst (λ cs. P cs (clear_groups (suc k) t (b ∷ bs)) (b ∷ bs)) (sym (contents_more t j (b ∷ bs) s g.1))
       (subst (λ out. P (s.content ∷ contents j t s.rest) out (b ∷ bs)) (sym (clear_more k (b ∷ bs) s (omega arith) g.1))
       (more (contents j t s.rest) (clear_groups k t s.rest) (b ∷ bs) s g.1 r))
 

@@ -1,5 +1,5 @@
 // Writing back a packet that was read: its groups and versions as they were, its reserved bytes zero.
-ghost use Rattle.std.specs.Prelude.{◌≡◌, ◌+◌, ◌%◌, ◌≤◌, min, ◌++◌, length, IfOk, IfErr, None, Ok, OnOk};
+ghost use Rattle.std.specs.Prelude.{◌≡◌, ◌+◌, ◌≤◌, min, ◌++◌, length, IfOk, IfErr, None, Ok, OnOk};
 ghost use Rattle.packets.specs.Cleared.{cleared};
 ghost use Rattle.packets.specs.Contents.{decode, raw, viewed_packet};
 ghost use Rattle.packets.specs.Encodings.{description_bytes, encode, framed};
@@ -171,7 +171,6 @@ fn write_pieces(
     third: &[u8],
     entries: &[u8],
 ) -> Open
-    requires whole { length entries.now % 16 ≡ 0 }
     requires room { draft.len + (4 + (length first.now + (length second.now + (length third.now + length entries.now)))) ≤ min (length buffer.old) 2048 }
     ensures state { result ≡ record { len = draft.len + length (framed of ((first.now ++ (second.now ++ third.now)) ++ cleared_entries (length entries.now) entries.now)) } }
     ensures bytes { buffer.new ≡ pasted draft.len (framed of ((first.now ++ (second.now ++ third.now)) ++ cleared_entries (length entries.now) entries.now)) buffer.old }
@@ -183,7 +182,6 @@ fn write_pieces(
 }
 
 fn write_descriptions(group: GroupOpen, buffer: &mut [u8], entries: &[u8]) -> GroupOpen
-    requires whole { length entries.now % 16 ≡ 0 }
     requires room { group.len + length entries.now ≤ min (length buffer.old) 2048 }
     ensures state { result ≡ record { start = group.start; len = group.len + length (cleared_entries (length entries.now) entries.now) } }
     ensures bytes { buffer.new ≡ pasted group.len (cleared_entries (length entries.now) entries.now) buffer.old }

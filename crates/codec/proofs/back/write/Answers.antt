@@ -1,13 +1,8 @@
 use Rattle.std.proofs.Common.{◌∙◌, arith}
 use Rattle.packets.specs.Contents.{raw}
-use Rattle.codec.proofs.BackLaws.{begins, groups_fit, finished_back}
+use Rattle.codec.proofs.BackLaws.{groups_fit, finished_back}
 use Rattle.codec.proofs.EncodingLaws.{read_back, encode_apart}
 use Rattle.codec.proofs.back.write.Goals as goal
-
-pub returns-in_default : goal.returns-in_default
-returns-in_default c =
-    let p = c.args.packet.now in
-    absurd (begins (raw p.content) p.newest p.oldest _ c.requires _ c.in_default.ensures.state)
 
 pub write_groups-draft-requires : goal.write_groups-draft-requires
 write_groups-draft-requires c =

@@ -1,16 +1,16 @@
-use Rattle.std.proofs.Common.{refl, arith}
+use Rattle.std.proofs.Common.{arith}
 use Rattle.codec.proofs.BackLaws.{bundle_pieces, summary_pieces, plain_pieces, pieces_group}
 use Rattle.codec.proofs.back.write_group.Goals as goal
 
 pub write_pieces-requires-in-Summary : goal.write_pieces-requires-in-Summary
 write_pieces-requires-in-Summary c =
     let p = summary_pieces _ _ c.requires.sound c.requires.least c.type_inv.content _ _ _ _ _ c.in-Summary.is c.split_at-in-Summary.ensures.front c.split_at-in-Summary.ensures.back c.split_at-in-Summary-2.ensures.back c.split_at-in-Summary-3.ensures.front c.split_at-in-Summary-3.ensures.back in
-    record { whole = p.whole; room = omega (arith, p.long, c.requires.room) }
+    record { room = omega (arith, p.long, c.requires.room) }
 
 pub write_pieces-requires-in-Acknowledgement : goal.write_pieces-requires-in-Acknowledgement
 write_pieces-requires-in-Acknowledgement c =
     let p = plain_pieces _ _ c.requires.sound c.requires.least c.type_inv.content c.in-Acknowledgement.is in
-    record { whole = refl; room = omega (arith, p.long, c.requires.room) }
+    record { room = omega (arith, p.long, c.requires.room) }
 
 pub returns-in-Bundle : goal.returns-in-Bundle
 returns-in-Bundle c =
