@@ -118,6 +118,7 @@ fn begin(packet: &Packet<'_>, buffer: &mut [u8]) -> Result<Open, HeaderFault>
 }
 
 // The groups up to one that breaks its layout.
+// Stays: draft and buffer are two parameters, since the writer's steps are lent the buffer one by one.
 fn write_groups(draft: Open, buffer: &mut [u8], of: PacketType, groups: &[u8]) -> Open
     requires { draft.len + length (groups_again (length groups.now) of groups.now) ≤ min (length buffer.old) 2048 }
     ensures state { result ≡ record { len = draft.len + length (groups_again (length groups.now) of groups.now) } }
@@ -162,6 +163,7 @@ fn write_group(draft: Open, buffer: &mut [u8], of: PacketType, content: &[u8]) -
 }
 
 // A group of three pieces, with descriptions behind them.
+// Stays: the pieces are parameters one by one, as the writer's step takes them; no other function has them.
 fn write_pieces(
     draft: Open,
     buffer: &mut [u8],

@@ -119,6 +119,7 @@ fn check_count(content: &[u8], at: usize, size: usize) -> Result<(), GroupFault>
 }
 
 // Whether all groups keep their layout; the first that breaks it is told.
+// Stays a walk of its own: `Groups` ends at a fault without telling it, and a `for` would split that group a second time.
 pub fn check_groups(of: PacketType, bytes: &[u8]) -> Result<(), Misfit>
     ensures { result ≡ unless (first_fault (length bytes.now) of bytes.now) tt }
 {
