@@ -1,6 +1,7 @@
 -- The newest instance, and successors. Assumes nothing.
 use Rattle.std.proofs.Common.{◌≡◌, ℕ, zero, suc, ◌+◌, ◌-◌, ◌<◌, ◌≤◌, false, cond, eqb, List, [], ◌∷◌, length, Some, None, Option, sym, refl, ap, ◌∙◌, subst, inl, inr, eq-or-lt_of_le, arith}
 use Rattle.std.proofs.lemmas.Bool.{ne_eqb}
+use Rattle.std.proofs.lemmas.Option.{none-some}
 use Rattle.std.specs.List.{fold, reduce, enumerate_from}
 use Rattle.std.specs.Option.{option_map, MatchOption}
 use Rattle.std.specs.Prelude.{slice_index_or}
@@ -31,9 +32,6 @@ by_higher P Higher a b = a refl
 is_higher_false : (r : Rank) → (r ≡ Higher → ⊥) → is_higher r ≡ false
 is_higher_false r n = not_higher (is_higher r ≡ false) r n (ap is_higher) (ap is_higher)
 
-some_none : {I : Type 0} {x : I} (P : Type 0) → ◌≡◌ {A = Option I} None (Some x) → P
-some_none P e = absurd (let z : ◌≡◌ {A = ℕ} 0 1 = cc in omega arith)
-
 same_some : {I : Type 0} (x y : I) → Some x ≡ Some y → x ≡ y
 same_some x y e = cc
 
@@ -56,8 +54,8 @@ module _ {I : Type 0} (ops : Operations I) (laws : Laws ops) where
   succeeds : (held : Option I) (check time : ℕ) → Succeeds ops held time (successor_of ops held check time)
   succeeds None check time = record {
     has_time = λ y t e. ap ops.left (sym (same_some _ _ e)) ∙ laws.first_left check time t;
-    above_held = λ x y t p q. some_none _ p;
-    above_lower = λ x y z t p q n. some_none _ p;
+    above_held = λ x y t p q. absurd (none-some x p);
+    above_lower = λ x y z t p q n. absurd (none-some x p);
   }
   succeeds (Some w) check time = record {
     has_time = λ y t e. laws.next_left w y check time t e;

@@ -143,6 +143,8 @@ impl GroupOpen {
     }
 }
 
+// Stays: of pieces as one `&[&[u8]]`, which would replace first to fourth here and in `append`, the borrow checker takes no array
+// in `group`, whose three pieces are lent for different lifetimes; and one lifetime for all is another public signature.
 // Whether some bytes and three pieces can be added without passing the longest packet or the buffer's end.
 fn fits(len: u16, buffer: &[u8], more: usize, first: &[u8], second: &[u8], third: &[u8]) -> bool
     requires { more ≤ 8 }
@@ -184,6 +186,7 @@ fn put16(buffer: &mut [u8], at: usize, n: u16)
     put(buffer, at + 1, low);
 }
 
+// Stays: where a slice's `get_mut` gives `None`, a proof knows no more what the slice has.
 fn put(buffer: &mut [u8], at: usize, byte: u8)
     ensures { buffer.new ≡ slice_set buffer.old at byte }
 {
