@@ -28,6 +28,7 @@ impl NodeId {
     }
 
     // As unsigned numbers.
+    #[tactic(auto, using(crate::proofs::IdLaws::is_larger))]
     pub fn is_larger(&self, other: &NodeId) -> bool
         ensures { result ≡ larger_node self.now other.now }
     {
