@@ -43,14 +43,9 @@ pub fn write_bundle<K: Kind>(
 fn is_short(bodies: &BodyStore, chosen: &[usize]) -> bool
     ensures { result ≡ nat_le (44 + needed (element_long bodies.now) chosen.now) 2048 }
 {
-    let mut len = 44;
-    for place in chosen {
-        len += 20 + bodies.body(*place).len();
-        if len > LONGEST {
-            return false;
-        }
-    }
-    true
+    chosen.iter().fold(44usize, |len, place| {
+        len.saturating_add(20 + bodies.body(*place).len())
+    }) <= LONGEST
 }
 
 // What an element's group is made of besides the element.
