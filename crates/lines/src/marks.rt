@@ -122,6 +122,7 @@ fn raise_one(count: &mut SendCount)
     count.raise(RESEND_LIMIT);
 }
 
+// Stays: three walks of one statement each, here and below; calls of one function that takes the statement are no shorter.
 fn raise_all(counts: &mut [SendCount])
     ensures { counts.new ≡ map (λ c. raised c resend_limit) counts.old }
 {
