@@ -7,6 +7,7 @@ use crate::rank::Rank;
 pub trait Kind: Copy {
     ghost model: { Operations Self };
 
+    // Stays: bytes are read and written by the kind's own functions, not by `From`, so that its model and laws speak of them.
     fn read(bytes: [u8; 8]) -> Self
         ensures { result ≡ model.read bytes };
 

@@ -4,6 +4,7 @@ ghost use Rattle.kinds.specs.Ranks.{rank_of};
 
 use std::cmp::Ordering;
 
+// Stays: an `Ordering` can be compared by `==`, and what ranks the same need not be equal, so a rank has no equality.
 #[derive(Clone, Copy)]
 pub enum Rank {
     Lower,
