@@ -1,308 +1,142 @@
-// What a captured packet holds: in words for a tester, or on one line for another program.
-use crate::hex::Hex;
-use crate::{hex, words};
-use anyhow::anyhow;
+// What a captured packet holds.
+use crate::style::Style;
+use crate::words::Fault as LineFault;
+use crate::{hex, text};
+use calls::refusal::Refusal;
 use codec::back::write_back;
-use packets::acknowledgement::Acknowledged;
 use packets::bundle::{Bundle, Element};
-use packets::group::{GroupFault, split_group};
+use packets::entry::{Entries, Entry};
+use packets::group::Groups;
 use packets::header::HeaderFault;
 use packets::layout::PacketType;
 use packets::named::Named;
 use packets::packet;
 use packets::packet::{Content, Fault, Packet};
-use packets::request::split_number;
-use packets::summary::{Described, Description, INITIALIZE, MASTER, MORE, Summary};
+use packets::summary::{Described, Description, Summary};
+use std::alloc::Global;
 use std::io;
 
-#[derive(Clone, Copy)]
-pub(crate) enum Style {
-    Words,
-    Plain,
-}
-
-// A packet on each line, in hex digits, or `-` for one without bytes; '#' starts a comment. Every line is read before
-// anything is said of one.
-pub(crate) fn report(rt: &HostRuntime, style: Style, text: &str) -> anyhow::Result<()> {
-    let mut packets = Vec::new(rt.alloc());
-    let mut bad = false;
-    for (i, line) in text.lines().enumerate() {
-        let number = i.saturating_add(1);
-        let digits = match words::uncommented(line).trim() {
-            "" => continue,
-            "-" => "",
-            digits => digits,
-        };
-        match hex::bytes(rt.alloc(), digits)? {
-            Some(bytes) => packets.push((number, bytes))?,
-            None => {
-                eprintln!(rt; "line {number}: expected a packet, in pairs of hex digits")?;
-                bad = true;
-            }
-        }
-    }
-    if bad {
-        return Err(anyhow!("the lines above are no packets, and nothing is reported"));
-    }
-    for (number, bytes) in packets.iter() {
-        print(rt, style, *number, bytes.as_slice())?;
+// A packet on each line, in hex digits, or `-` for one without bytes.
+pub(crate) fn report<S: Style>(rt: &HostRuntime, text: &str) -> anyhow::Result<()> {
+    let packets = text::read(rt, text, "no packets, and nothing is reported", |line| {
+        captured(rt.alloc(), line)
+    })?;
+    for packet in packets.iter() {
+        print::<S>(rt, packet.at, packet.content.as_slice())?;
     }
     Ok(())
+}
+
+fn captured(heap: Global, line: &str) -> text::Read<Vec<u8>, LineFault<'_>> {
+    let digits = match line.trim() {
+        "" => return Ok(Ok(None)),
+        "-" => "",
+        digits => digits,
+    };
+    let bytes = hex::bytes(heap, digits)?;
+    Ok(
+        bytes.map(Some).ok_or(LineFault::Line {
+            expected: "a packet, in pairs of hex digits",
+        }),
+    )
 }
 
 // One captured packet; `line` is where it was found.
-fn print(rt: &HostRuntime, style: Style, line: usize, bytes: &[u8]) -> io::Result<()> {
-    let length = bytes.len();
-    if let Style::Words = style {
-        println!(rt; "line {line}: {length} bytes")?;
-    }
+fn print<S: Style>(rt: &HostRuntime, line: usize, bytes: &[u8]) -> io::Result<()> {
+    S::found(rt, line, bytes.len())?;
     match packet::read(bytes) {
         Ok(packet) => {
-            content(rt, style, &packet)?;
-            written(rt, style, bytes)
+            S::packet(rt, &packet)?;
+            content::<S>(rt, &packet)?;
+            written::<S>(rt, bytes)
         }
-        Err(fault) => refusal(rt, style, fault),
+        Err(fault) => S::refused(rt, u8::from(refusal(fault)), fault, place(fault)),
     }
 }
 
-fn refusal(rt: &HostRuntime, style: Style, fault: Fault) -> io::Result<()> {
-    let (number, name, place) = match fault {
-        Fault::Header(fault) => (6, header_fault(fault), header_place(fault)),
-        Fault::Group { fault, at } => (7, group_fault(fault), at),
-    };
-    match style {
-        Style::Plain => println!(rt; "{number} {name} {place}"),
-        Style::Words => println!(rt; "  refused with {number}: {name}, at byte {place}\n"),
-    }
-}
-
-fn header_fault(fault: HeaderFault) -> &'static str {
+// What a call that is given the packet declines with.
+fn refusal(fault: Fault) -> Refusal {
     match fault {
-        HeaderFault::Short => "short",
-        HeaderFault::Long => "long",
-        HeaderFault::Length => "length",
-        HeaderFault::Version => "version",
-        HeaderFault::Type => "type",
-        HeaderFault::Cut => "cut",
+        Fault::Header(_) => Refusal::PacketHeader,
+        Fault::Group { .. } => Refusal::PacketGroup,
     }
 }
 
-fn header_place(fault: HeaderFault) -> usize {
+// The byte at which the fault is.
+fn place(fault: Fault) -> usize {
     match fault {
-        HeaderFault::Short | HeaderFault::Long | HeaderFault::Type => 0,
-        HeaderFault::Length => 2,
-        HeaderFault::Version => 4,
-        HeaderFault::Cut => 8,
+        Fault::Header(HeaderFault::Short | HeaderFault::Long | HeaderFault::Type) => 0,
+        Fault::Header(HeaderFault::Length) => 2,
+        Fault::Header(HeaderFault::Version) => 4,
+        Fault::Header(HeaderFault::Cut) => 8,
+        Fault::Group { at, .. } => at,
     }
 }
 
-fn group_fault(fault: GroupFault) -> &'static str {
-    match fault {
-        GroupFault::Cut => "group-cut",
-        GroupFault::Type => "group-type",
-        GroupFault::Short => "group-short",
-        GroupFault::Long => "group-long",
-        GroupFault::Body => "body",
-        GroupFault::Count => "count",
-    }
-}
-
-fn content(rt: &HostRuntime, style: Style, packet: &Packet<'_>) -> io::Result<()> {
-    let name = match packet.content.packet_type() {
-        PacketType::Bundle => "bundle",
-        PacketType::Acknowledgement => "acknowledgement",
-        PacketType::Summary => "summary",
-        PacketType::Request => "request",
-    };
-    let newest = packet.newest;
-    let oldest = packet.oldest;
-    match style {
-        Style::Plain => print!(rt; "0 {name} {newest} {oldest}")?,
-        Style::Words => println!(rt; "  {name}, newest version {newest}, oldest {oldest}")?,
-    }
+fn content<S: Style>(rt: &HostRuntime, packet: &Packet<'_>) -> io::Result<()> {
     match packet.content {
-        Content::Bundle(parts) => bundle(rt, style, &parts),
-        Content::Acknowledgement(groups) => acknowledgement(rt, style, groups),
-        Content::Summary(parts) => summary(rt, style, &parts),
-        Content::Request(groups) => request(rt, style, groups),
+        Content::Bundle(parts) => bundle::<S>(rt, &parts),
+        Content::Acknowledgement(groups) => {
+            named::<S, _, _>(rt, PacketType::Acknowledgement, groups, |entry| {
+                S::acknowledged(rt, &entry)
+            })
+        }
+        Content::Summary(parts) => summary::<S>(rt, &parts),
+        Content::Request(groups) => named::<S, _, _>(rt, PacketType::Request, groups, |number| {
+            S::requested(rt, number)
+        }),
     }
 }
 
-fn bundle(rt: &HostRuntime, style: Style, bundle: &Bundle<'_>) -> io::Result<()> {
-    let node = Hex(&bundle.node.bytes);
-    let group = Hex(&bundle.group.bytes);
-    match style {
-        Style::Plain => print!(rt; " {node} {group}")?,
-        Style::Words => println!(rt; "  node {node}, peer group {group}")?,
-    }
-    let mut rest = bundle.groups;
-    for _ in 0..bundle.groups.len() {
-        let Ok(group) = split_group(PacketType::Bundle, rest) else {
-            break;
-        };
-        if let Some(read) = Element::read(group.content) {
-            element(rt, style, &read)?;
+fn bundle<S: Style>(rt: &HostRuntime, bundle: &Bundle<'_>) -> io::Result<()> {
+    S::bundle(rt, bundle)?;
+    for content in Groups::new(PacketType::Bundle, bundle.groups) {
+        if let Some(element) = Element::read(content) {
+            S::element(rt, &element)?;
         }
-        rest = group.rest;
     }
     Ok(())
 }
 
-fn element(rt: &HostRuntime, style: Style, element: &Element<'_>) -> io::Result<()> {
-    let element_type = element.element_type;
-    let number = element.number;
-    let instance = Hex(&element.instance);
-    let body = Hex(element.body);
-    let none = element.body.is_empty();
-    match style {
-        Style::Plain if none => print!(rt; " element {element_type} {number} {instance} -"),
-        Style::Plain => print!(rt; " element {element_type} {number} {instance} {body}"),
-        Style::Words if none => println!(rt;
-            "    element {number}, type {element_type}, instance {instance}, no body"
-        ),
-        Style::Words => println!(rt;
-            "    element {number}, type {element_type}, instance {instance}, body {body}"
-        ),
-    }
-}
-
-fn node(rt: &HostRuntime, style: Style, named: &Named<'_>) -> io::Result<()> {
-    let id = Hex(&named.node.bytes);
-    match style {
-        Style::Plain => print!(rt; " group {id}"),
-        Style::Words => println!(rt; "  of node {id}"),
-    }
-}
-
-fn acknowledgement(rt: &HostRuntime, style: Style, groups: &[u8]) -> io::Result<()> {
-    let mut rest = groups;
-    for _ in 0..groups.len() {
-        let Ok(group) = split_group(PacketType::Acknowledgement, rest) else {
-            break;
-        };
-        if let Some(named) = Named::read(group.content) {
-            node(rt, style, &named)?;
-            acknowledged(rt, style, named.entries)?;
+fn summary<S: Style>(rt: &HostRuntime, summary: &Summary<'_>) -> io::Result<()> {
+    S::summary(rt, summary.head)?;
+    for content in Groups::new(PacketType::Summary, summary.groups) {
+        if let Some(described) = Described::read(content) {
+            S::described(rt, &described)?;
+            for entry in Entries::<Description>::new(described.entries) {
+                S::description(rt, &entry)?;
+            }
         }
-        rest = group.rest;
     }
     Ok(())
 }
 
-fn acknowledged(rt: &HostRuntime, style: Style, entries: &[u8]) -> io::Result<()> {
-    let mut rest = entries;
-    for _ in 0..entries.len() {
-        let Some((entry, behind)) = Acknowledged::split(rest) else {
-            break;
-        };
-        let number = entry.number;
-        let instance = Hex(&entry.instance);
-        match style {
-            Style::Plain => print!(rt; " entry {number} {instance}")?,
-            Style::Words => println!(rt; "    element {number}, instance {instance}")?,
+// The groups of an acknowledgement or of a request, each of one node.
+fn named<S: Style, E: Entry, F: Fn(E) -> io::Result<()>>(
+    rt: &HostRuntime,
+    of: PacketType,
+    groups: &[u8],
+    print: F,
+) -> io::Result<()>
+    requires { F.IsAlwaysCallable print }
+{
+    for content in Groups::new(of, groups) {
+        if let Some(named) = Named::read(content) {
+            S::named(rt, &named.node)?;
+            for entry in Entries::<E>::new(named.entries) {
+                print(entry)?;
+            }
         }
-        rest = behind;
-    }
-    Ok(())
-}
-
-fn summary(rt: &HostRuntime, style: Style, summary: &Summary<'_>) -> io::Result<()> {
-    let flags = summary.flags;
-    let number = summary.ds_number;
-    match style {
-        Style::Plain => print!(rt; " {flags} {number}")?,
-        Style::Words => {
-            let initialize = named(flags, INITIALIZE, " Initialize");
-            let more = named(flags, MORE, " More");
-            let master = named(flags, MASTER, " Master");
-            println!(rt; "  DS number {number}, flags {flags:04x}:{initialize}{more}{master}")?;
-        }
-    }
-    let mut rest = summary.groups;
-    for _ in 0..summary.groups.len() {
-        let Ok(group) = split_group(PacketType::Summary, rest) else {
-            break;
-        };
-        if let Some(described) = Described::read(group.content) {
-            descriptions(rt, style, &described)?;
-        }
-        rest = group.rest;
-    }
-    Ok(())
-}
-
-// A flag's name, where it is set.
-fn named(flags: u16, flag: u16, name: &'static str) -> &'static str {
-    if flags & flag == 0 { "" } else { name }
-}
-
-fn descriptions(rt: &HostRuntime, style: Style, described: &Described<'_>) -> io::Result<()> {
-    let node = Hex(&described.node.bytes);
-    let group = Hex(&described.group.bytes);
-    match style {
-        Style::Plain => print!(rt; " group {node} {group}")?,
-        Style::Words => println!(rt; "  of node {node}, peer group {group}")?,
-    }
-    let mut rest = described.entries;
-    for _ in 0..described.entries.len() {
-        let Some((entry, behind)) = Description::split(rest) else {
-            break;
-        };
-        let element_type = entry.element_type;
-        let number = entry.number;
-        let instance = Hex(&entry.instance);
-        match style {
-            Style::Plain => print!(rt; " entry {element_type} {number} {instance}")?,
-            Style::Words => println!(rt;
-                "    element {number}, type {element_type}, instance {instance}"
-            )?,
-        }
-        rest = behind;
-    }
-    Ok(())
-}
-
-fn request(rt: &HostRuntime, style: Style, groups: &[u8]) -> io::Result<()> {
-    let mut rest = groups;
-    for _ in 0..groups.len() {
-        let Ok(group) = split_group(PacketType::Request, rest) else {
-            break;
-        };
-        if let Some(named) = Named::read(group.content) {
-            node(rt, style, &named)?;
-            numbers(rt, style, named.entries)?;
-        }
-        rest = group.rest;
-    }
-    Ok(())
-}
-
-fn numbers(rt: &HostRuntime, style: Style, entries: &[u8]) -> io::Result<()> {
-    let mut rest = entries;
-    for _ in 0..entries.len() {
-        let Some((number, behind)) = split_number(rest) else {
-            break;
-        };
-        match style {
-            Style::Plain => print!(rt; " entry {number}")?,
-            Style::Words => println!(rt; "    element {number}")?,
-        }
-        rest = behind;
     }
     Ok(())
 }
 
 // The packet as it is written back, with its reserved bytes zero.
-fn written(rt: &HostRuntime, style: Style, bytes: &[u8]) -> io::Result<()> {
+fn written<S: Style>(rt: &HostRuntime, bytes: &[u8]) -> io::Result<()> {
     let mut buffer = [0; 2048];
     let length = write_back(bytes, &mut buffer).unwrap_or(0);
-    let Some(back) = buffer.get(0..length) else {
-        return Ok(());
-    };
-    let hex = Hex(back);
-    match style {
-        Style::Plain => println!(rt; " written {hex}"),
-        Style::Words if back == bytes => println!(rt; "  written back as it was: {hex}\n"),
-        Style::Words => println!(rt; "  written back with its reserved bytes zero: {hex}\n"),
+    match buffer.get(..length) {
+        Some(back) => S::written(rt, bytes, back),
+        None => Ok(()),
     }
 }

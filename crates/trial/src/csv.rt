@@ -1,83 +1,106 @@
 // A played script for another program: a header, and a row for each call.
+ghost use Rattle.std.specs.Iterator.{IsFinite};
+
 use crate::hex::Hex;
 use crate::outcome::Outcome;
 use crate::play::Play;
-use crate::script::Step;
-use crate::state;
+use crate::script::Call;
+use crate::scripts::Layout;
+use crate::shown::Shown;
+use crate::text::Numbered;
 use database::node::Node;
 use kinds::kind::Kind;
 use lines::line::Line;
 use packets::ids::Name;
-use std::io;
+use std::{fmt, io};
 
 const HEADER: &str =
     "step,call,result,left,written,line0,line1,line2,line3,line4,line5,line6,line7,owed0,owed1,owed2,owed3,owed4,owed5,owed6,owed7,held";
 
-pub(crate) fn header(rt: &HostRuntime) -> io::Result<()> {
-    rt.println(HEADER)
+pub(crate) struct Csv;
+
+impl Layout for Csv {
+    fn header(rt: &HostRuntime) -> io::Result<()> {
+        rt.println(HEADER)
+    }
+
+    fn row<K: Kind>(
+        rt: &HostRuntime,
+        number: usize,
+        step: &Numbered<Call>,
+        outcome: &Outcome,
+        play: &Play<K>,
+    ) -> io::Result<()> {
+        answer(rt, number, &step.content, outcome)?;
+        for line in play.node.lines.iter() {
+            print!(rt; ",{}", Shown(line.state))?;
+        }
+        for line in play.node.lines.iter() {
+            owed(rt, &play.node, line)?;
+        }
+        held(rt, &play.node, &play.elements)?;
+        println!(rt; "")
+    }
 }
 
-pub(crate) fn row<K: Kind>(
-    rt: &HostRuntime,
-    number: usize,
-    step: &Step,
-    outcome: &Outcome,
-    play: &Play<K>,
-) -> io::Result<()> {
-    answer(rt, number, step.call.word(), outcome)?;
-    for line in play.node.lines.iter() {
-        let word = state::word(line.state);
-        print!(rt; ",{word}")?;
-    }
-    for line in play.node.lines.iter() {
-        owed(rt, &play.node, line)?;
-    }
-    held(rt, &play.node, &play.elements)
-}
-
-fn answer(rt: &HostRuntime, step: usize, call: &str, outcome: &Outcome) -> io::Result<()> {
-    let result = outcome.result;
+fn answer(rt: &HostRuntime, number: usize, call: &Call, outcome: &Outcome) -> io::Result<()> {
+    let result = outcome.number();
     let left = outcome.left;
     let written = Hex(outcome.packet());
-    print!(rt; "{step},{call},{result},{left},{written}")
+    print!(rt; "{number},{call},{result},{left},{written}")
 }
 
 // The names owed on a line, in the order of their places.
 fn owed(rt: &HostRuntime, node: &Node, line: &Line) -> io::Result<()> {
-    let mut later = false;
-    rt.print(",")?;
-    for (place, held) in node.places.iter().enumerate() {
-        let Some(element) = held else {
-            continue;
-        };
-        if line.owed.contains(place) {
-            name(rt, later, &element.name)?;
-            later = true;
-        }
-    }
-    Ok(())
+    let owed = node
+        .places
+        .iter()
+        .enumerate()
+        .filter(|(place, _)| line.owed.contains(*place))
+        .filter_map(|(_, held)| Some(Named(&held.as_ref()?.name)));
+    list(rt, owed)
 }
 
 // What is held, in the order of places.
 fn held<K: Kind>(rt: &HostRuntime, node: &Node, elements: &[K]) -> io::Result<()> {
-    let mut later = false;
-    rt.print(",")?;
-    for (held, instance) in node.places.iter().zip(elements.iter()) {
-        if let Some(element) = held {
-            name(rt, later, &element.name)?;
-            let bytes = instance.write();
-            let hex = Hex(&bytes);
-            print!(rt; "={hex}")?;
-            later = true;
-        }
-    }
-    println!(rt; "")
+    let held = node.places.iter().zip(elements).filter_map(|(held, instance)| Some(NamedInstance(
+        Named(&held.as_ref()?.name),
+        instance.write(),
+    )));
+    list(rt, held)
 }
 
-// A name, and a mark before it where it is not the first.
-fn name(rt: &HostRuntime, later: bool, name: &Name) -> io::Result<()> {
-    let mark = if later { ";" } else { "" };
-    let node = Hex(&name.node.bytes);
-    let number = name.number;
-    print!(rt; "{mark}{node}:{number}")
+// A field with marks between its items.
+fn list<I: Iterator + Drop>(rt: &HostRuntime, items: I) -> io::Result<()>
+where
+    I::Item: fmt::Display + Drop,
+    requires can { I.can_next items }
+    requires ends { IsFinite (I.remaining items) }
+{
+    rt.print(",")?;
+    let mut mark = "";
+    for item in items {
+        print!(rt; "{mark}{item}")?;
+        mark = ";";
+    }
+    Ok(())
+}
+
+#[derive(Clone, Copy)]
+struct Named<'a>(&'a Name);
+
+impl fmt::Display for Named<'_> {
+    fn fmt<W: fmt::Write>(&self, f: &mut fmt::Formatter<W>) -> fmt::Result {
+        write!(f, "{}:{}", Hex(&self.0.node.bytes), self.0.number)
+    }
+}
+
+// A name, and the instance under it.
+#[derive(Clone, Copy)]
+struct NamedInstance<'a>(Named<'a>, [u8; 8]);
+
+impl fmt::Display for NamedInstance<'_> {
+    fn fmt<W: fmt::Write>(&self, f: &mut fmt::Formatter<W>) -> fmt::Result {
+        write!(f, "{}={}", self.0, Hex(&self.1))
+    }
 }

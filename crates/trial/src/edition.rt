@@ -9,28 +9,38 @@ use crate::key::Key;
 use kinds::cache::Cache;
 use kinds::kind::Kind;
 use kinds::topology::Topology;
-use std::alloc::{AllocError, Global};
+use std::fmt;
 
 pub(crate) trait Edition: Kind {
     ghost by: { Key → Self → Self → Rank };
 
-    fn fields(&self, heap: Global) -> Result<String, AllocError>;
+    fn write_fields<W: fmt::Write>(&self, f: &mut fmt::Formatter<W>) -> fmt::Result;
 
     // Where this edition is newer than the other, it is newer by the key that is answered.
     fn newer_by(&self, other: &Self) -> Key
         ensures { Self.Kind.model.rank self.now other.now ≡ Higher → by result self.now other.now ≡ Higher };
 }
 
+// The fields of an edition.
+#[derive(Drop)]
+pub(crate) struct Fields<'a, E>(pub &'a E);
+
+impl<E: Edition> fmt::Display for Fields<'_, E> {
+    fn fmt<W: fmt::Write>(&self, f: &mut fmt::Formatter<W>) -> fmt::Result {
+        self.0.write_fields(f)
+    }
+}
+
 impl Edition for Topology {
     ghost by = { topology_by };
 
-    fn fields(&self, heap: Global) -> Result<String, AllocError> {
+    fn write_fields<W: fmt::Write>(&self, f: &mut fmt::Formatter<W>) -> fmt::Result {
         let Topology {
             sequence,
             check,
             lifetime,
         } = *self;
-        format!(in heap; "sequence {sequence}, check {check}, lifetime {lifetime}")
+        write!(f, "sequence {sequence}, check {check}, lifetime {lifetime}")
     }
 
     fn newer_by(&self, other: &Topology) -> Key {
@@ -47,13 +57,16 @@ impl Edition for Topology {
 impl Edition for Cache {
     ghost by = { cache_by };
 
-    fn fields(&self, heap: Global) -> Result<String, AllocError> {
+    fn write_fields<W: fmt::Write>(&self, f: &mut fmt::Formatter<W>) -> fmt::Result {
         let Cache {
             sequence,
             flags,
             hold,
         } = *self;
-        format!(in heap; "sequence {sequence}, flags {flags:04x}, hold time {hold}")
+        write!(
+            f,
+            "sequence {sequence}, flags {flags:04x}, hold time {hold}"
+        )
     }
 
     fn newer_by(&self, other: &Cache) -> Key {

@@ -11,8 +11,7 @@ pub(crate) struct Hex<'a>(pub &'a [u8]);
 impl fmt::Display for Hex<'_> {
     fn fmt<W: fmt::Write>(&self, f: &mut fmt::Formatter<W>) -> fmt::Result {
         for byte in self.0 {
-            let b = *byte;
-            write!(f, "{b:02x}")?;
+            write!(f, "{byte:02x}")?;
         }
         Ok(())
     }
@@ -31,17 +30,22 @@ fn digit(b: u8) -> Option<u8>
     }
 }
 
+// The byte that two digits stand for.
+fn byte(high: u8, low: u8) -> Option<u8> {
+    Some(digit(high)? * 16 + digit(low)?)
+}
+
 // As many bytes as the array has, from twice as many digits.
 pub(crate) fn array<const N: usize>(text: &str) -> Option<[u8; N]> {
-    let digits = text.as_bytes();
-    if digits.len() % 2 != 0 || digits.len() / 2 != N {
+    let (pairs, []) = text.as_bytes().as_chunks::<2>() else {
+        return None;
+    };
+    if pairs.len() != N {
         return None;
     }
     let mut bytes = [0; N];
-    for i in 0..N {
-        let high = digit(digits[2 * i])?;
-        let low = digit(digits[2 * i + 1])?;
-        bytes[i] = high * 16 + low;
+    for (place, [high, low]) in bytes.iter_mut().zip(pairs) {
+        *place = byte(*high, *low)?;
     }
     Some(bytes)
 }
@@ -49,24 +53,15 @@ pub(crate) fn array<const N: usize>(text: &str) -> Option<[u8; N]> {
 // The bytes that digits stand for, in pairs; spaces between them do not count. `None` where there is anything else.
 pub(crate) fn bytes(heap: Global, text: &str) -> Result<Option<Vec<u8>>, AllocError> {
     let mut all = Vec::new(heap);
-    let mut high = None;
-    for b in text.bytes() {
-        if b.is_ascii_whitespace() {
-            continue;
-        }
-        let Some(low) = digit(b) else {
-            return Ok(None);
-        };
-        match high {
-            None => high = Some(low),
-            Some(first) => {
-                all.push(first << 4 | low)?;
-                high = None;
-            }
+    let mut first = None;
+    for digit in text.bytes().filter(|b| !b.is_ascii_whitespace()) {
+        match first.take() {
+            None => first = Some(digit),
+            Some(high) => match byte(high, digit) {
+                Some(byte) => all.push(byte)?,
+                None => return Ok(None),
+            },
         }
     }
-    match high {
-        None => Ok(Some(all)),
-        Some(_) => Ok(None),
-    }
+    Ok(first.is_none().then_some(all))
 }

@@ -1,4 +1,6 @@
 // The keys by which editions of an element rank, as a tester would name them.
+use std::fmt;
+
 #[derive(Clone, Copy)]
 pub(crate) enum Key {
     Sequence,
@@ -6,13 +8,13 @@ pub(crate) enum Key {
     Check,
 }
 
-impl Key {
-    // What the newer of two editions has over the other.
-    pub(crate) fn reason(self) -> &'static str {
-        match self {
+// What the newer of two editions has over the other.
+impl fmt::Display for Key {
+    fn fmt<W: fmt::Write>(&self, f: &mut fmt::Formatter<W>) -> fmt::Result {
+        f.write_str(match self {
             Key::Sequence => "its sequence is larger",
             Key::Expiry => "it is expired, at the same sequence",
             Key::Check => "its check is larger, at the same sequence and as much expired",
-        }
+        })
     }
 }

@@ -13,15 +13,18 @@ mod report;
 mod request;
 mod script;
 mod scripts;
-mod state;
+mod shown;
+mod style;
 mod table;
+mod text;
 mod words;
 
 use anyhow::anyhow;
-use capture::Style;
-use scripts::Layout;
+use csv::Csv;
 use std::process::ExitCode;
 use std::{env, fs, io};
+use style::{Plain, Words};
+use table::Table;
 
 const USAGE: &str = "usage: trial editions [FILE] | trial packets [--plain] [FILE]";
 
@@ -36,44 +39,34 @@ fn main(rt: HostRuntime) -> ExitCode {
 }
 
 fn run(rt: &HostRuntime) -> anyhow::Result<()> {
-    let mut words = env::args(rt)?.skip(1);
-    let Some(task) = words.next() else {
-        return Err(anyhow!("{USAGE}"));
-    };
-    let mut file = words.next();
-    let mut style = Style::Words;
-    if matches!(&file, Some(word) if word.as_str() == "--plain") {
-        style = Style::Plain;
-        file = words.next();
-    }
-    if words.next().is_some() {
-        return Err(anyhow!("{USAGE}"));
-    }
-    match (task.as_str(), style) {
-        ("editions", Style::Words) => editions::report(rt, text(rt, file)?.as_str()),
-        ("packets", _) => capture::report(rt, style, text(rt, file)?.as_str()),
-        ("--csv", Style::Words) => scripts::play(rt, Layout::Csv, script_text(rt, file)?.as_str()),
-        ("--table", Style::Words) => scripts::play(
-            rt,
-            Layout::Table,
-            script_text(rt, file)?.as_str(),
-        ),
+    let args: Vec<String> = env::args(rt)?.skip(1).collect(rt.alloc())?;
+    let words: Vec<&str> = args.iter().map(|word| word.as_str()).collect(rt.alloc())?;
+    match words.as_slice() {
+        ["packets", "--plain", file @ ..] => {
+            capture::report::<Plain>(rt, read(rt, file)?.as_str())
+        }
+        ["packets", file @ ..] => capture::report::<Words>(rt, read(rt, file)?.as_str()),
+        ["editions", "--plain", ..] => Err(anyhow!("{USAGE}")),
+        ["editions", file @ ..] => editions::report(rt, read(rt, file)?.as_str()),
+        ["--csv", file @ ..] => scripts::play::<Csv>(rt, read_script(rt, file)?.as_str()),
+        ["--table", file @ ..] => scripts::play::<Table>(rt, read_script(rt, file)?.as_str()),
         _ => Err(anyhow!("{USAGE}")),
     }
 }
 
-// The whole file, or all of standard input.
-fn text(rt: &HostRuntime, file: Option<String>) -> io::Result<String> {
+// The whole file, or all of standard input where none is named.
+fn read(rt: &HostRuntime, file: &[&str]) -> anyhow::Result<String> {
     match file {
-        Some(path) => fs::read_to_string(rt, path),
-        None => io::read_to_string(rt.alloc(), rt.stdin()),
+        [] => Ok(io::read_to_string(rt.alloc(), rt.stdin())?),
+        [path] => Ok(fs::read_to_string(rt, *path)?),
+        _ => Err(anyhow!("{USAGE}")),
     }
 }
 
 // The same for a script, which no option may follow.
-fn script_text(rt: &HostRuntime, file: Option<String>) -> anyhow::Result<String> {
-    if matches!(&file, Some(word) if word.as_str().starts_with('-')) {
+fn read_script(rt: &HostRuntime, file: &[&str]) -> anyhow::Result<String> {
+    if file.iter().any(|word| word.starts_with('-')) {
         return Err(anyhow!("{USAGE}"));
     }
-    Ok(text(rt, file)?)
+    read(rt, file)
 }

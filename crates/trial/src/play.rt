@@ -34,10 +34,10 @@ impl<K: Kind> Play<K> {
                 line,
                 neighbour,
                 ds_number,
-            } => Outcome::of(up::up(node, elements, wants, *line, *neighbour, *ds_number)),
-            Call::Down { line } => Outcome::of(down::down(node, elements, wants, *line)),
+            } => Outcome::from(up::up(node, elements, wants, *line, *neighbour, *ds_number)),
+            Call::Down { line } => Outcome::from(down::down(node, elements, wants, *line)),
             Call::Originate(element) => self.originate(element),
-            Call::Second => Outcome::of(second::second(node, elements, wants)),
+            Call::Second => Outcome::from(second::second(node, elements, wants)),
         }
     }
 
@@ -49,7 +49,7 @@ impl<K: Kind> Play<K> {
             time: element.time,
             body: element.body.as_slice(),
         };
-        Outcome::of(originate::originate(
+        Outcome::from(originate::originate(
             &mut self.node,
             &mut self.elements,
             &mut self.wants,

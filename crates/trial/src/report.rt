@@ -1,5 +1,5 @@
 // What is said of the editions of one request.
-use crate::edition::Edition;
+use crate::edition::{Edition, Fields};
 use crate::hex::Hex;
 use crate::request::Request;
 use kinds::kind::Kind;
@@ -10,19 +10,24 @@ use std::io;
 pub(crate) fn print<E: Edition>(
     rt: &HostRuntime,
     line: usize,
-    kind: &str,
     request: &Request,
-    editions: &[E],
-) -> io::Result<()> {
+) -> anyhow::Result<()> {
+    let kind = request.kind;
+    let editions: Vec<E> = request
+        .editions
+        .iter()
+        .map(|bytes| E::read(*bytes))
+        .collect(rt.alloc())?;
     let count = editions.len();
     println!(rt; "line {line}: {kind}, {count} captured")?;
-    for (i, edition) in editions.iter().enumerate() {
-        one(rt, i.saturating_add(1), request, edition)?;
+    for (number, edition) in (1..).zip(editions.iter()) {
+        one(rt, number, request, edition)?;
     }
-    if let Some(best) = recency::newest(editions) {
-        newest(rt, best, editions)?;
+    if let Some(best) = recency::newest(editions.as_slice()) {
+        newest(rt, best, editions.as_slice())?;
     }
-    println!(rt; "")
+    println!(rt; "")?;
+    Ok(())
 }
 
 fn one<E: Edition>(
@@ -31,14 +36,16 @@ fn one<E: Edition>(
     request: &Request,
     edition: &E,
 ) -> io::Result<()> {
-    let bytes = edition.write();
-    let hex = Hex(&bytes);
-    let fields = edition.fields(rt.alloc())?;
-    println!(rt; "  edition {number} is {hex}: {fields}")?;
+    println!(rt;
+        "  edition {number} is {}: {}",
+        Hex(&edition.write()),
+        Fields(edition)
+    )?;
     course(rt, request.after, edition)?;
-    let bytes = edition.expired().write();
-    let hex = Hex(&bytes);
-    println!(rt; "    its expired form is {hex}")?;
+    println!(rt;
+        "    its expired form is {}",
+        Hex(&edition.expired().write())
+    )?;
     next(rt, request.check, request.time, edition)
 }
 
@@ -48,42 +55,43 @@ fn course<E: Edition>(rt: &HostRuntime, seconds: u32, edition: &E) -> io::Result
     if left == 0 {
         return println!(rt; "    it is expired and does not age");
     }
-    let last = ageing::after(edition, u32::from(left)).write();
-    let end = Hex(&last);
-    println!(rt; "    it has {left} s left, and runs out then as {end}")?;
+    let last = ageing::after(edition, u32::from(left));
+    println!(rt;
+        "    it has {left} s left, and runs out then as {}",
+        Hex(&last.write())
+    )?;
     let later = ageing::after(edition, seconds);
-    let bytes = later.write();
-    let hex = Hex(&bytes);
     let rest = later.left();
-    println!(rt; "    {seconds} s later it is {hex}, with {rest} s left")
+    println!(rt;
+        "    {seconds} s later it is {}, with {rest} s left",
+        Hex(&later.write())
+    )
 }
 
 fn next<E: Edition>(rt: &HostRuntime, check: u16, time: u16, edition: &E) -> io::Result<()> {
     match recency::successor(Some(*edition), check, time) {
-        Some(following) => {
-            let bytes = following.write();
-            let hex = Hex(&bytes);
-            println!(rt; "    next, with check {check} and {time} s, comes {hex}")
-        }
+        Some(next) => println!(rt;
+            "    next, with check {check} and {time} s, comes {}",
+            Hex(&next.write())
+        ),
         None => println!(rt; "    none comes next, as its sequence is the last"),
     }
 }
 
 // Which edition is newest, and why.
 fn newest<E: Edition>(rt: &HostRuntime, best: usize, editions: &[E]) -> io::Result<()> {
-    let number = best.saturating_add(1);
-    println!(rt; "  the newest is edition {number}")?;
     let Some(newest) = editions.get(best) else {
         return Ok(());
     };
-    for (i, edition) in editions.iter().enumerate() {
-        let other = i.saturating_add(1);
+    let best = best + 1;
+    println!(rt; "  the newest is edition {best}")?;
+    for (number, edition) in (1..).zip(editions) {
         match newest.rank(edition) {
             Rank::Higher => {
-                let reason = newest.newer_by(edition).reason();
-                println!(rt; "    newer than edition {other}: {reason}")?;
+                let reason = newest.newer_by(edition);
+                println!(rt; "    newer than edition {number}: {reason}")?;
             }
-            Rank::Same if i != best => println!(rt; "    the same as edition {other}")?,
+            Rank::Same if number != best => println!(rt; "    the same as edition {number}")?,
             _ => {}
         }
     }

@@ -1,7 +1,12 @@
-// A request on a line of its own: KIND EDITION.. [after SECONDS] [next CHECK TIME], and '#' starts a comment.
+// A request on a line of its own: KIND EDITION.. [after SECONDS] [next CHECK TIME].
+ghost use Rattle.std.specs.Prelude.{◌≤◌, length};
+ghost use Rattle.std.specs.Str.Iter.{split_whitespace_rest};
+
 use crate::words;
 use crate::words::{Fault, KindName};
 use std::alloc::Global;
+use std::num::NonZeroU16;
+use std::str::{FromStr, SplitWhitespace};
 
 #[derive(Drop)]
 pub(crate) struct Request {
@@ -14,15 +19,6 @@ pub(crate) struct Request {
     pub time: u16,
 }
 
-// What the next word of a request is to be.
-#[derive(Clone, Copy)]
-enum Part {
-    Any,
-    Seconds,
-    Check,
-    Time,
-}
-
 const EDITION: &str = "an edition of sixteen hex digits, 'after' or 'next'";
 
 const SECONDS: &str = "a number of seconds";
@@ -31,54 +27,43 @@ const CHECK: &str = "a check number of 0 to 65535";
 
 const TIME: &str = "a time of 1 to 65535 seconds";
 
-// `None` for a line that holds nothing but a comment.
+// `None` for a line without words.
 pub(crate) fn read(heap: Global, line: &str) -> Result<Option<Request>, Fault<'_>> {
-    let mut words = words::uncommented(line).split_whitespace();
+    let mut words = line.split_whitespace();
     let Some(word) = words.next() else {
         return Ok(None);
     };
     let mut request = Request {
-        kind: words::kind(word)?,
+        kind: KindName::try_from(word)?,
         editions: Vec::new(heap),
         after: 60,
         check: 0,
         time: 3600,
     };
-    let mut part = Part::Any;
-    for word in words {
-        part = take(&mut request, part, word)?;
+    while let Some(word) = words.next() {
+        match word {
+            "after" => request.after = number(&mut words, SECONDS)?,
+            "next" => {
+                request.check = number(&mut words, CHECK)?;
+                request.time = number::<NonZeroU16>(&mut words, TIME)?.get();
+            }
+            _ => request.editions.push(words::array(word, EDITION)?)?,
+        }
     }
-    match part {
-        Part::Any if request.editions.is_empty() => Err(Fault::Ends { expected: EDITION }),
-        Part::Any => Ok(Some(request)),
-        Part::Seconds => Err(Fault::Ends { expected: SECONDS }),
-        Part::Check => Err(Fault::Ends { expected: CHECK }),
-        Part::Time => Err(Fault::Ends { expected: TIME }),
+    if request.editions.is_empty() {
+        return Err(Fault::Ends { expected: EDITION });
     }
+    Ok(Some(request))
 }
 
-// Takes one word into the request, and says what comes after it.
-fn take<'a>(request: &mut Request, part: Part, word: &'a str) -> Result<Part, Fault<'a>> {
-    match (part, word) {
-        (Part::Any, "after") => return Ok(Part::Seconds),
-        (Part::Any, "next") => return Ok(Part::Check),
-        (Part::Any, _) => {
-            request.editions.push(words::array(word, EDITION)?)?;
-        }
-        (Part::Seconds, _) => request.after = words::number(word, SECONDS)?,
-        (Part::Check, _) => {
-            request.check = words::number(word, CHECK)?;
-            return Ok(Part::Time);
-        }
-        (Part::Time, _) => {
-            request.time = words::number(word, TIME)?;
-            if request.time == 0 {
-                return Err(Fault::Found {
-                    expected: TIME,
-                    word,
-                });
-            }
-        }
-    }
-    Ok(Part::Any)
+// The next word as a number.
+fn number<'a, N: FromStr>(
+    words: &mut SplitWhitespace<'a>,
+    expected: &'static str,
+) -> Result<N, Fault<'a>>
+where
+    N::Err: Drop,
+    ensures { length (split_whitespace_rest words.new) ≤ length (split_whitespace_rest words.old) }
+{
+    words::number(words.next().ok_or(Fault::Ends { expected })?, expected)
 }

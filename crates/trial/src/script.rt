@@ -1,14 +1,16 @@
-// A trial script: a call on each line, the first of them start, and '#' starts a comment.
-use crate::words;
+// A trial script: a call on each line, the first of them start.
+use crate::text::Numbered;
 use crate::words::{Fault, KindName};
+use crate::{text, words};
 use anyhow::anyhow;
 use packets::ids::{NodeId, PeerGroupId};
 use std::alloc::Global;
+use std::fmt;
 
 #[derive(Drop)]
 pub(crate) struct Script {
     pub start: Start,
-    pub steps: Vec<Step>,
+    pub steps: Vec<Numbered<Call>>,
 }
 
 #[derive(Clone, Copy)]
@@ -16,13 +18,6 @@ pub(crate) struct Start {
     pub kind: KindName,
     pub node: NodeId,
     pub group: PeerGroupId,
-}
-
-#[derive(Drop)]
-pub(crate) struct Step {
-    // Where the script has it, counted from 1.
-    pub at: usize,
-    pub call: Call,
 }
 
 #[derive(Drop)]
@@ -48,22 +43,16 @@ pub(crate) struct OwnElement {
     pub body: Vec<u8>,
 }
 
-impl Call {
-    // The script's word for it.
-    pub(crate) fn word(&self) -> &'static str {
-        match self {
+// The script's word for it.
+impl fmt::Display for Call {
+    fn fmt<W: fmt::Write>(&self, f: &mut fmt::Formatter<W>) -> fmt::Result {
+        f.pad(match self {
             Call::Up { .. } => "up",
             Call::Down { .. } => "down",
             Call::Originate(_) => "originate",
             Call::Second => "second",
-        }
+        })
     }
-}
-
-#[derive(Drop)]
-enum Command {
-    Start(Start),
-    Call(Call),
 }
 
 const START: &str =
@@ -101,46 +90,35 @@ const TIME: &str = "TIME, a number up to 65535";
 
 const BODY: &str = "BODY, pairs of hex digits or - for none";
 
-// Every line is read before anything is played, and every bad one is named.
 pub(crate) fn read(rt: &HostRuntime, text: &str) -> anyhow::Result<Script> {
-    let mut begun = None;
-    let mut steps = Vec::new(rt.alloc());
-    let mut first = true;
-    let mut bad = false;
-    for (i, line) in text.lines().enumerate() {
-        let at = i.saturating_add(1);
-        match read_command(rt.alloc(), first, line) {
-            Ok(None) => continue,
-            Ok(Some(Command::Start(start))) => begun = Some(start),
-            Ok(Some(Command::Call(call))) => steps.push(Step { at, call })?,
-            Err(fault) => {
-                eprintln!(rt; "line {at}: {fault}")?;
-                bad = true;
-            }
-        }
-        first = false;
-    }
-    if bad {
-        return Err(anyhow!("the lines above are no calls, and nothing is played"));
-    }
-    match begun {
-        Some(start) => Ok(Script { start, steps }),
-        None => Err(anyhow!("expected start KIND NODE GROUP, found the end of the script")),
+    let mut begin = None;
+    let steps = text::read(rt, text, "no calls, and nothing is played", |line| {
+        Ok(read_line(rt.alloc(), &mut begin, line))
+    })?;
+    match begin {
+        Some(Some(start)) => Ok(Script { start, steps }),
+        _ => Err(anyhow!("expected start KIND NODE GROUP, found the end of the script")),
     }
 }
 
-// `None` for a line that holds nothing but a comment.
-fn read_command(heap: Global, first: bool, line: &str) -> Result<Option<Command>, Fault<'_>> {
-    let mut words = words::uncommented(line).split_whitespace();
+// `None` for a line without words, and for the first that has some: it goes to `begin`, as `Some(None)` where it is bad.
+fn read_line<'a>(
+    heap: Global,
+    begin: &mut Option<Option<Start>>,
+    line: &'a str,
+) -> Result<Option<Call>, Fault<'a>> {
+    let mut words = line.split_whitespace();
     let Some(word) = words.next() else {
         return Ok(None);
     };
-    let rest: Vec<&str> = words.collect(heap)?;
-    if first {
-        Ok(Some(Command::Start(read_start(word, rest.as_slice())?)))
-    } else {
-        Ok(Some(Command::Call(read_call(heap, word, rest.as_slice())?)))
+    if begin.is_some() {
+        let rest: Vec<&str> = words.collect(heap)?;
+        return Ok(Some(read_call(heap, word, rest.as_slice())?));
     }
+    *begin = Some(None);
+    let rest: Vec<&str> = words.collect(heap)?;
+    *begin = Some(Some(read_start(word, rest.as_slice())?));
+    Ok(None)
 }
 
 fn read_start<'a>(word: &'a str, rest: &[&'a str]) -> Result<Start, Fault<'a>> {
@@ -151,10 +129,10 @@ fn read_start<'a>(word: &'a str, rest: &[&'a str]) -> Result<Start, Fault<'a>> {
         });
     }
     let [kind, node, group] = rest else {
-        return Err(Fault::Count { expected: START });
+        return Err(Fault::Line { expected: START });
     };
     Ok(Start {
-        kind: words::kind(kind)?,
+        kind: KindName::try_from(*kind)?,
         node: NodeId {
             bytes: words::array(node, NODE)?,
         },
@@ -179,7 +157,7 @@ fn read_call<'a>(heap: Global, word: &'a str, rest: &[&'a str]) -> Result<Call, 
 
 fn read_up<'a>(words: &[&'a str]) -> Result<Call, Fault<'a>> {
     let [line, neighbour, ds_number] = words else {
-        return Err(Fault::Count { expected: UP });
+        return Err(Fault::Line { expected: UP });
     };
     Ok(Call::Up {
         line: words::number(line, LINE)?,
@@ -192,7 +170,7 @@ fn read_up<'a>(words: &[&'a str]) -> Result<Call, Fault<'a>> {
 
 fn read_down<'a>(words: &[&'a str]) -> Result<Call, Fault<'a>> {
     let [line] = words else {
-        return Err(Fault::Count { expected: DOWN });
+        return Err(Fault::Line { expected: DOWN });
     };
     Ok(Call::Down {
         line: words::number(line, LINE)?,
@@ -201,7 +179,7 @@ fn read_down<'a>(words: &[&'a str]) -> Result<Call, Fault<'a>> {
 
 fn read_originate<'a>(heap: Global, words: &[&'a str]) -> Result<Call, Fault<'a>> {
     let [number, element_type, check, time, body] = words else {
-        return Err(Fault::Count {
+        return Err(Fault::Line {
             expected: ORIGINATE,
         });
     };
@@ -218,6 +196,6 @@ fn read_second<'a>(words: &[&'a str]) -> Result<Call, Fault<'a>> {
     if words.is_empty() {
         Ok(Call::Second)
     } else {
-        Err(Fault::Count { expected: SECOND })
+        Err(Fault::Line { expected: SECOND })
     }
 }

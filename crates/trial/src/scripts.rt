@@ -1,46 +1,50 @@
 // The task of playing a trial script.
+use crate::outcome::Outcome;
 use crate::play::Play;
-use crate::script::{Start, Step};
+use crate::script;
+use crate::script::{Call, Start};
+use crate::text::Numbered;
 use crate::words::KindName;
-use crate::{csv, script, table};
 use kinds::cache::Cache;
 use kinds::kind::Kind;
 use kinds::topology::Topology;
+use std::io;
 
-#[derive(Clone, Copy)]
-pub(crate) enum Layout {
-    Table,
-    Csv,
+// How a played script is laid out: a header, and a row for each call.
+pub(crate) trait Layout {
+    fn header(rt: &HostRuntime) -> io::Result<()>;
+
+    fn row<K: Kind>(
+        rt: &HostRuntime,
+        number: usize,
+        step: &Numbered<Call>,
+        outcome: &Outcome,
+        play: &Play<K>,
+    ) -> io::Result<()>;
 }
 
-pub(crate) fn play(rt: &HostRuntime, layout: Layout, text: &str) -> anyhow::Result<()> {
+pub(crate) fn play<L: Layout>(rt: &HostRuntime, text: &str) -> anyhow::Result<()> {
     let script = script::read(rt, text)?;
     let steps = script.steps.as_slice();
     let Start { kind, node, group } = script.start;
+    // Stays: two arms of one call each, as in editions; a trait for what is done for a kind needs a struct for each task.
     match kind {
-        KindName::Topology => run(rt, layout, Play::<Topology>::new(node, group), steps),
-        KindName::Cache => run(rt, layout, Play::<Cache>::new(node, group), steps),
+        KindName::Topology => run::<L, _>(rt, Play::<Topology>::new(node, group), steps)?,
+        KindName::Cache => run::<L, _>(rt, Play::<Cache>::new(node, group), steps)?,
     }
+    Ok(())
 }
 
 // Makes each call on the node and prints what came of it.
-fn run<K: Kind>(
+fn run<L: Layout, K: Kind>(
     rt: &HostRuntime,
-    layout: Layout,
     mut play: Play<K>,
-    steps: &[Step],
-) -> anyhow::Result<()> {
-    match layout {
-        Layout::Table => table::header(rt)?,
-        Layout::Csv => csv::header(rt)?,
-    }
-    for (i, step) in steps.iter().enumerate() {
-        let number = i.saturating_add(1);
-        let outcome = play.make(&step.call);
-        match layout {
-            Layout::Table => table::row(rt, number, step, &outcome, &play.node)?,
-            Layout::Csv => csv::row(rt, number, step, &outcome, &play)?,
-        }
+    steps: &[Numbered<Call>],
+) -> io::Result<()> {
+    L::header(rt)?;
+    for (number, step) in (1..).zip(steps) {
+        let outcome = play.make(&step.content);
+        L::row(rt, number, step, &outcome, &play)?;
     }
     Ok(())
 }

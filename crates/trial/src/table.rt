@@ -1,57 +1,61 @@
 // A played script for people: a row for each call, and below it the packet that it wrote.
 use crate::hex::Hex;
 use crate::outcome::Outcome;
-use crate::script::Step;
-use crate::state;
+use crate::play::Play;
+use crate::script::Call;
+use crate::scripts::Layout;
+use crate::shown::Shown;
+use crate::text::Numbered;
 use database::node::Node;
-use lines::line::{Line, State};
+use kinds::kind::Kind;
+use lines::line::State;
 use std::io;
 
 const HEADER: &str =
     "step  script    call       answer                                                    lines not down (instances owed)";
 
-pub(crate) fn header(rt: &HostRuntime) -> io::Result<()> {
-    rt.println(HEADER)
-}
+pub(crate) struct Table;
 
-pub(crate) fn row(
-    rt: &HostRuntime,
-    number: usize,
-    step: &Step,
-    outcome: &Outcome,
-    node: &Node,
-) -> io::Result<()> {
-    let at = step.at;
-    let call = step.call.word();
-    let answer = outcome.answer(rt.alloc())?;
-    print!(rt; "{number:>4}  line {at:<4} {call:<9}  {answer:<56}")?;
-    lines(rt, node)?;
-    written(rt, outcome)
+impl Layout for Table {
+    fn header(rt: &HostRuntime) -> io::Result<()> {
+        rt.println(HEADER)
+    }
+
+    fn row<K: Kind>(
+        rt: &HostRuntime,
+        number: usize,
+        step: &Numbered<Call>,
+        outcome: &Outcome,
+        play: &Play<K>,
+    ) -> io::Result<()> {
+        let at = step.at;
+        let call = &step.content;
+        let answer = outcome.to_string(rt.alloc())?;
+        print!(rt; "{number:>4}  line {at:<4} {call:<9}  {answer:<56}")?;
+        lines(rt, &play.node)?;
+        written(rt, outcome)
+    }
 }
 
 fn lines(rt: &HostRuntime, node: &Node) -> io::Result<()> {
-    let mut none = true;
-    for (i, line) in node.lines.iter().enumerate() {
-        if matches!(line.state, State::Down) {
-            continue;
-        }
-        let state = state::word(line.state);
-        let owed = owed(line);
+    if node
+        .lines
+        .iter()
+        .all(|line| matches!(line.state, State::Down))
+    {
+        return rt.println("  none");
+    }
+    let up = node
+        .lines
+        .iter()
+        .enumerate()
+        .filter(|(_, line)| !matches!(line.state, State::Down));
+    for (i, line) in up {
+        let state = Shown(line.state);
+        let owed = (0..64).filter(|place| line.owed.contains(*place)).count();
         print!(rt; "  {i} {state} ({owed})")?;
-        none = false;
     }
-    rt.println(if none { "  none" } else { "" })
-}
-
-// How many instances a line is owed.
-fn owed(line: &Line) -> usize {
-    let mut count = 0usize;
-    for place in 0..64usize {
-        if line.owed.contains(place) {
-            count = count.saturating_add(1);
-        }
-    }
-    count
+    rt.println("")
 }
 
 fn written(rt: &HostRuntime, outcome: &Outcome) -> io::Result<()> {

@@ -10,6 +10,30 @@ pub(crate) enum KindName {
     Cache,
 }
 
+impl fmt::Display for KindName {
+    fn fmt<W: fmt::Write>(&self, f: &mut fmt::Formatter<W>) -> fmt::Result {
+        f.write_str(match self {
+            KindName::Topology => "topology",
+            KindName::Cache => "cache",
+        })
+    }
+}
+
+impl<'a> TryFrom<&'a str> for KindName {
+    type Error = Fault<'a>;
+
+    fn try_from(word: &'a str) -> Result<KindName, Fault<'a>> {
+        match word {
+            "topology" => Ok(KindName::Topology),
+            "cache" => Ok(KindName::Cache),
+            _ => Err(Fault::Found {
+                expected: "topology or cache",
+                word,
+            }),
+        }
+    }
+}
+
 #[derive(Clone, Copy)]
 pub(crate) enum Fault<'a> {
     Found {
@@ -19,8 +43,8 @@ pub(crate) enum Fault<'a> {
     Ends {
         expected: &'static str,
     },
-    // Too few words, or too many.
-    Count {
+    // Of the whole line, as too few words, or too many.
+    Line {
         expected: &'static str,
     },
     Memory,
@@ -31,7 +55,7 @@ impl fmt::Display for Fault<'_> {
         match *self {
             Fault::Found { expected, word } => write!(f, "expected {expected}, found '{word}'"),
             Fault::Ends { expected } => write!(f, "expected {expected}, found the end of the line"),
-            Fault::Count { expected } => write!(f, "expected {expected}"),
+            Fault::Line { expected } => write!(f, "expected {expected}"),
             Fault::Memory => write!(f, "no memory is left"),
         }
     }
@@ -49,33 +73,12 @@ impl<T: Drop> From<AllocFailed<T>> for Fault<'_> {
     }
 }
 
-// What stands before a comment.
-pub(crate) fn uncommented(line: &str) -> &str {
-    match line.split_once('#') {
-        Some((before, _)) => before,
-        None => line,
-    }
-}
-
-pub(crate) fn kind(word: &str) -> Result<KindName, Fault<'_>> {
-    match word {
-        "topology" => Ok(KindName::Topology),
-        "cache" => Ok(KindName::Cache),
-        _ => Err(Fault::Found {
-            expected: "topology or cache",
-            word,
-        }),
-    }
-}
-
 pub(crate) fn number<'a, N: FromStr>(word: &'a str, expected: &'static str) -> Result<N, Fault<'a>>
 where
     N::Err: Drop,
 {
-    match word.parse::<N>() {
-        Ok(n) => Ok(n),
-        Err(_) => Err(Fault::Found { expected, word }),
-    }
+    word.parse::<N>()
+        .map_err(|_| Fault::Found { expected, word })
 }
 
 pub(crate) fn array<'a, const N: usize>(
