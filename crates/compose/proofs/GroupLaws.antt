@@ -2,7 +2,6 @@
 use Rattle.std.proofs.Common.{◌≡◌, ℕ, List, [], ◌∷◌, ◌++◌, map, length, get_or, Option, sym, ap, ◌∙◌}
 use Rattle.std.proofs.lemmas.List.{append_assoc, append-nil}
 use Rattle.kinds.specs.Kinds.{Operations}
-use Rattle.kinds.specs.Recency.{instance_at}
 use Rattle.kinds.specs.BigEndian.{write16, write32}
 use Rattle.packets.specs.declared.acknowledgement.Acknowledged.{Acknowledged}
 use Rattle.packets.specs.declared.ids.NodeId.{NodeId}
@@ -17,7 +16,7 @@ use Rattle.exchange.specs.Bundling.{element_out}
 use Rattle.exchange.specs.Handing.{requested}
 use Rattle.exchange.specs.Summaries.{description_of}
 use Rattle.compose.specs.Composed.{acknowledgement_content, bundle_content, request_content, summary_content}
-use Rattle.compose.specs.Framed.{acknowledgement_group, described_group, description_group, element_group, groups_bytes, request_group}
+use Rattle.compose.specs.Framed.{acknowledgement_group, description_group, element_group, groups_bytes, request_group}
 use Rattle.compose.proofs.ComposeLaws.{groups_framed}
 
 -- the two bytes of a number, read one by one
@@ -38,10 +37,6 @@ numbers_are k n ks ws rest p q = two k ks _ p ∙ ap (λ ys. write16 k (0 ∷ 0 
 -- a group of a summary, with its one entry behind the rest
 pub entry_behind : (t : PacketType) (a b c ds : List ℕ) → framed t ((a ++ (b ++ c)) ++ ds) ≡ framed t (a ++ (b ++ (c ++ ds)))
 entry_behind t a b c ds = ap (framed t) (append_assoc a (b ++ c) ds ∙ ap (λ ys. a ++ ys) (append_assoc b c ds))
-
--- a description with the instance of the row
-pub described_at : {I : Type 0} (ops : Operations I) (xs : List I) (p : ℕ) (e : Element) (x : I) (bs : List ℕ) → bs ≡ ops.write x → x ≡ instance_at ops xs p → described_group e bs ≡ description_group ops xs p e
-described_at ops xs p e x bs w i = ap (described_group e) (w ∙ ap ops.write i)
 
 -- the group of an acknowledgement
 pub acknowledged_bytes_are : (node : NodeId) (entries : List Acknowledged) (ws : List ℕ) → ws ≡ write16 (length entries) [] → framed type.Acknowledgement ((node.bytes ++ (ws ++ [])) ++ joined (map entry_bytes entries)) ≡ acknowledgement_group node entries

@@ -22,6 +22,7 @@ pub fn write_acknowledgement(buffer: &mut [u8], node: NodeId, entries: &[Acknowl
     if entries.len() > MOST_ENTRIES || buffer.len() < LONGEST {
         return 0;
     }
+    // Stays apart from `write_packet`: its one group is of no place of a table, and a table made for it is no plainer.
     let draft = begin(buffer, PacketType::Acknowledgement, &[], &[]);
     let draft = write_group(draft, buffer, node, entries);
     usize::from(draft.finish(buffer).len)
@@ -44,6 +45,7 @@ fn write_group(draft: Open, buffer: &mut [u8], node: NodeId, entries: &[Acknowle
     write_entries(group, buffer, entries).close(buffer)
 }
 
+// Stays apart from `write_groups`: an entry goes into an open group, another of the writer's fixed states, and none is passed over.
 fn write_entries(mut group: GroupOpen, buffer: &mut [u8], entries: &[Acknowledged]) -> GroupOpen
     requires { HasRoom group.len (length entries.now * 12) buffer.old }
     ensures start { result.start ≡ group.start }
