@@ -1,7 +1,5 @@
-use Rattle.std.proofs.Common.{◌≡◌, ℕ, ◌+◌, ◌-◌, ◌*◌, ◌<◌, ◌≤◌, length}
 use denote.Text.{Utf8}
 use denote.Shadow.{shadow}
-use Rattle.std.specs.Iterator.{IsFinite}
 use Rattle.trial.proofs.csv.list.Given as goal
 
 abbrev pub invariant-loop-item : goal.invariant-loop-item
