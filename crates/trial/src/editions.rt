@@ -16,7 +16,7 @@ pub(crate) fn report(rt: &HostRuntime, text: &str) -> anyhow::Result<()> {
 }
 
 fn answer(rt: &HostRuntime, line: usize, request: &Request) -> anyhow::Result<()> {
-    // Stays: two arms of one call each, as in scripts; a trait for what is done for a kind needs a struct for each task.
+    // Stays: two arms of one call each, as in scripts; a trait for the work on a kind needs a struct for each task.
     match request.kind {
         KindName::Topology => report::print::<Topology>(rt, line, request),
         KindName::Cache => report::print::<Cache>(rt, line, request),

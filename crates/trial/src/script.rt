@@ -101,7 +101,7 @@ pub(crate) fn read(rt: &HostRuntime, text: &str) -> anyhow::Result<Script> {
     }
 }
 
-// `None` for a line without words, and for the first that has some: it goes to `begin`, as `Some(None)` where it is bad.
+// `None` for a line without words, and for the first with some: it goes to `begin`, as `Some(None)` where it is bad.
 fn read_line<'a>(
     heap: Global,
     begin: &mut Option<Option<Start>>,

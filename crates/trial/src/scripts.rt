@@ -27,7 +27,7 @@ pub(crate) fn play<L: Layout>(rt: &HostRuntime, text: &str) -> anyhow::Result<()
     let script = script::read(rt, text)?;
     let steps = script.steps.as_slice();
     let Start { kind, node, group } = script.start;
-    // Stays: two arms of one call each, as in editions; a trait for what is done for a kind needs a struct for each task.
+    // Stays: two arms of one call each, as in editions; a trait for the work on a kind needs a struct for each task.
     match kind {
         KindName::Topology => run::<L, _>(rt, Play::<Topology>::new(node, group), steps)?,
         KindName::Cache => run::<L, _>(rt, Play::<Cache>::new(node, group), steps)?,
