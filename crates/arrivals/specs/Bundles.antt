@@ -1,5 +1,5 @@
 -- What a bundle does, and what is written of it. Assumes nothing.
-use Rattle.std.specs.Prelude.{ℕ, cond, List, [], ◌∷◌, ◌++◌, map, length, take, nat_lt}
+use Rattle.std.specs.Prelude.{ℕ, cond, List, [], ◌∷◌, ◌++◌, map, length, nat_lt}
 use Rattle.packets.specs.declared.acknowledgement.Acknowledged.{Acknowledged}
 use Rattle.packets.specs.declared.bundle.Bundle.{Bundle}
 use Rattle.packets.specs.declared.bundle.Element.{Element}
@@ -8,7 +8,6 @@ use Rattle.packets.specs.Bundles.{ElementView, element_at}
 use Rattle.packets.specs.Groups.{contents}
 use Rattle.tables.specs.declared.verdict.Verdict.{Verdict}
 use Rattle.exchange.specs.Arrivals.{is_acknowledged}
-use Rattle.arrivals.specs.declared.bundle.Arrivals.{Arrivals}
 
 abbrev pub element_view : Element → ElementView
 element_view e = record { element_type = e.element_type; number = e.number; instance = e.instance; body = e.body.now }
@@ -22,10 +21,6 @@ elements_of groups = cond (nat_lt 2004 (length groups)) [] (elements_in groups)
 
 abbrev pub bundled : Bundle → List ElementView
 bundled b = elements_of b.groups.now
-
--- what is acknowledged
-abbrev pub listed : Arrivals → List Acknowledged
-listed a = take a.count a.acknowledged
 
 -- one more, if the verdict is one that is acknowledged
 abbrev pub noted : Verdict → Acknowledged → List Acknowledged → List Acknowledged

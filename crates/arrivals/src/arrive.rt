@@ -8,10 +8,10 @@ ghost use Rattle.tables.specs.Verdicts.{rank_at, verdict_of};
 ghost use Rattle.arrivals.specs.Elements.{arriving};
 
 use crate::marking;
-use crate::rows::instance_at;
 use database::node::Node;
 use kinds::kind::Kind;
 use kinds::rank::Rank;
+use kinds::recency::instance_at;
 use tables::element::Element;
 use tables::verdict::Verdict;
 use tables::wants;

@@ -1,12 +1,12 @@
 // The elements of a bundle, one after the other.
-ghost use Rattle.std.specs.Prelude.{◌≡◌, ◌+◌, ◌<◌, ◌≤◌, length, take};
+ghost use Rattle.std.specs.Prelude.{◌≡◌, ◌+◌, ◌<◌, ◌≤◌, [], length};
 ghost use Rattle.database.specs.Nodes.{world};
 ghost use Rattle.exchange.specs.Arrivals.{acknowledged_of, acknowledgement_of, arrival_of, arrived, bundle_world, left_by, left_of, verdict_on};
 ghost use Rattle.packets.specs.Bundles.{element_at};
-ghost use Rattle.arrivals.specs.Bundles.{bundled, element_view, elements_in, listed, noted};
+ghost use Rattle.places.specs.Lists.{listed};
+ghost use Rattle.arrivals.specs.Bundles.{bundled, element_view, elements_in, noted};
 
 use crate::arrive::arrive;
-use crate::rows::append;
 use database::node::Node;
 use kinds::kind::Kind;
 use packets::acknowledgement::Acknowledged;
@@ -15,6 +15,7 @@ use packets::bundle::Bundle;
 use packets::group::split_group;
 use packets::ids::Name;
 use packets::layout::PacketType;
+use places::list::List;
 use tables::element::Element;
 use tables::verdict::Verdict;
 
@@ -24,35 +25,31 @@ const MOST_BYTES: usize = 2004;
 // What is acknowledged of a bundle, in its order, and how many of its elements found no place.
 #[derive(Clone, Copy)]
 pub struct Arrivals {
-    pub acknowledged: [Acknowledged; 100],
-    pub count: usize,
+    pub acknowledged: List<Acknowledged, 100>,
     pub left: usize,
 }
 
 impl Arrivals {
     fn none() -> Arrivals
-        ensures { (result.count ≡ 0) × (result.left ≡ 0) }
+        ensures { (listed result.acknowledged ≡ []) × (result.left ≡ 0) }
     {
         Arrivals {
-            acknowledged: [Acknowledged {
+            acknowledged: List::new(Acknowledged {
                 number: 0,
                 instance: [0; 8],
-            }; 100],
-            count: 0,
+            }),
             left: 0,
         }
     }
 
     fn note(&mut self, verdict: Verdict, acknowledged: Acknowledged)
-        requires { (self.old.count < 100) × (self.old.left < 100) }
-        ensures listed { listed self.new ≡ noted verdict acknowledged (listed self.old) }
-        ensures count { self.new.count ≤ self.old.count + 1 }
+        requires { (length (listed self.old.acknowledged) < 100) × (self.old.left < 100) }
+        ensures acknowledged { listed self.new.acknowledged ≡ noted verdict acknowledged (listed self.old.acknowledged) }
         ensures left { self.new.left ≡ self.old.left + left_by verdict }
     {
         match verdict {
             Verdict::Same(_) | Verdict::Newer(_) | Verdict::Gone | Verdict::New(_) => {
-                append(&mut self.acknowledged, self.count, acknowledged);
-                self.count += 1;
+                self.acknowledged.push(acknowledged);
             }
             Verdict::Older(_) => {}
             Verdict::NoPlace => self.left += 1,
@@ -69,8 +66,8 @@ pub fn arrive_all<K: Kind>(
     bundle: &Bundle<'_>,
 ) -> Arrivals
     ensures world { world node.new elements.new wanted.now ≡ bundle_world K.model line bundle.now.node.bytes bundle.now.group.bytes (bundled bundle.now) (world node.old elements.old wanted.now) }
-    ensures acknowledged { take result.count result.acknowledged ≡ acknowledged_of K.model line bundle.now.node.bytes bundle.now.group.bytes (bundled bundle.now) (world node.old elements.old wanted.now) }
-    ensures count { result.count ≤ 100 }
+    ensures acknowledged { listed result.acknowledged ≡ acknowledged_of K.model line bundle.now.node.bytes bundle.now.group.bytes (bundled bundle.now) (world node.old elements.old wanted.now) }
+    ensures count { length (listed result.acknowledged) ≤ 100 }
     ensures left { result.left ≡ left_of K.model line bundle.now.node.bytes bundle.now.group.bytes (bundled bundle.now) (world node.old elements.old wanted.now) }
 {
     if bundle.groups.len() > MOST_BYTES {
@@ -88,8 +85,8 @@ fn arrive_groups<K: Kind>(
 ) -> Arrivals
     requires { length bundle.now.groups.now ≤ 2004 }
     ensures world { world node.new elements.new wanted.now ≡ bundle_world K.model line bundle.now.node.bytes bundle.now.group.bytes (elements_in bundle.now.groups.now) (world node.old elements.old wanted.now) }
-    ensures acknowledged { listed result ≡ acknowledged_of K.model line bundle.now.node.bytes bundle.now.group.bytes (elements_in bundle.now.groups.now) (world node.old elements.old wanted.now) }
-    ensures count { result.count ≤ 100 }
+    ensures acknowledged { listed result.acknowledged ≡ acknowledged_of K.model line bundle.now.node.bytes bundle.now.group.bytes (elements_in bundle.now.groups.now) (world node.old elements.old wanted.now) }
+    ensures count { length (listed result.acknowledged) ≤ 100 }
     ensures left { result.left ≡ left_of K.model line bundle.now.node.bytes bundle.now.group.bytes (elements_in bundle.now.groups.now) (world node.old elements.old wanted.now) }
 {
     let mut arrivals = Arrivals::none();
@@ -118,10 +115,9 @@ fn arrive_group<K: Kind>(
     content: &[u8],
     arrivals: &mut Arrivals,
 )
-    requires { (16 ≤ length content.now) × ((arrivals.old.count < 100) × (arrivals.old.left < 100)) }
+    requires { (16 ≤ length content.now) × ((length (listed arrivals.old.acknowledged) < 100) × (arrivals.old.left < 100)) }
     ensures world { world node.new elements.new wanted.now ≡ arrived K.model line (arrival_of K.model bundle.now.node.bytes bundle.now.group.bytes (element_at content.now)) (world node.old elements.old wanted.now) }
-    ensures listed { listed arrivals.new ≡ noted (verdict_on K.model (arrival_of K.model bundle.now.node.bytes bundle.now.group.bytes (element_at content.now)) (world node.old elements.old wanted.now)) (acknowledgement_of (element_at content.now)) (listed arrivals.old) }
-    ensures count { arrivals.new.count ≤ arrivals.old.count + 1 }
+    ensures acknowledged { listed arrivals.new.acknowledged ≡ noted (verdict_on K.model (arrival_of K.model bundle.now.node.bytes bundle.now.group.bytes (element_at content.now)) (world node.old elements.old wanted.now)) (acknowledgement_of (element_at content.now)) (listed arrivals.old.acknowledged) }
     ensures left { arrivals.new.left ≡ arrivals.old.left + left_by (verdict_on K.model (arrival_of K.model bundle.now.node.bytes bundle.now.group.bytes (element_at content.now)) (world node.old elements.old wanted.now)) }
 {
     if let Some(arrival) = bundle::Element::read(content) {
@@ -138,10 +134,9 @@ fn arrive_next<K: Kind>(
     arrival: &bundle::Element<'_>,
     arrivals: &mut Arrivals,
 )
-    requires { (arrivals.old.count < 100) × (arrivals.old.left < 100) }
+    requires { (length (listed arrivals.old.acknowledged) < 100) × (arrivals.old.left < 100) }
     ensures world { world node.new elements.new wanted.now ≡ arrived K.model line (arrival_of K.model bundle.now.node.bytes bundle.now.group.bytes (element_view arrival.now)) (world node.old elements.old wanted.now) }
-    ensures listed { listed arrivals.new ≡ noted (verdict_on K.model (arrival_of K.model bundle.now.node.bytes bundle.now.group.bytes (element_view arrival.now)) (world node.old elements.old wanted.now)) (acknowledgement_of (element_view arrival.now)) (listed arrivals.old) }
-    ensures count { arrivals.new.count ≤ arrivals.old.count + 1 }
+    ensures acknowledged { listed arrivals.new.acknowledged ≡ noted (verdict_on K.model (arrival_of K.model bundle.now.node.bytes bundle.now.group.bytes (element_view arrival.now)) (world node.old elements.old wanted.now)) (acknowledgement_of (element_view arrival.now)) (listed arrivals.old.acknowledged) }
     ensures left { arrivals.new.left ≡ arrivals.old.left + left_by (verdict_on K.model (arrival_of K.model bundle.now.node.bytes bundle.now.group.bytes (element_view arrival.now)) (world node.old elements.old wanted.now)) }
 {
     let element = Element {

@@ -7,7 +7,6 @@ pub mod bundle;
 mod marking;
 pub mod naming;
 pub mod request;
-mod rows;
 pub mod summary;
 mod walk;
 pub mod want;

@@ -1,31 +1,40 @@
 // What becomes of one line; a line past the end of the table has nothing to change.
-ghost use Rattle.std.specs.Prelude.{◌≡◌, slice_index_or, slice_set};
+ghost use Rattle.std.specs.Prelude.{◌≡◌, ◌<◌, ◌≤◌, length, slice_index_or, slice_set};
+ghost use Rattle.std.specs.Fn.{FnOnceReturnsAtMut};
+ghost use Rattle.lines.specs.declared.line.Line.{Line};
 ghost use Rattle.lines.specs.Lines.{no_line, owing, shown};
 ghost use Rattle.arrivals.specs.Readings.{naming_view};
 ghost use Rattle.exchange.specs.Showings.{shown_by, showing};
 
 use crate::naming::Naming;
-use crate::rows::instance_at;
 use kinds::kind::Kind;
 use kinds::rank::Rank;
+use kinds::recency::instance_at;
 use lines::line::Line;
 use tables::element::Element;
 use tables::search::find_in;
 
+// Stays: the bound is tested by hand, since `get_mut` says nothing of what the slice is afterwards.
+fn on_line<F: FnOnce(&mut Line)>(lines: &mut [Line], line: usize, change: F)
+    requires { F.IsAlwaysCallable change }
+    ensures within { line < length lines.old → (next : Line) × FnOnceReturnsAtMut F.FnOnce change (slice_index_or lines.old line no_line) tt next × (lines.new ≡ slice_set lines.old line next) }
+    ensures past { length lines.old ≤ line → lines.new ≡ lines.old }
+{
+    if line < lines.len() {
+        change(&mut lines[line]);
+    }
+}
+
 pub(crate) fn show(lines: &mut [Line], line: usize, place: usize)
     ensures { lines.new ≡ slice_set lines.old line (shown place (slice_index_or lines.old line no_line)) }
 {
-    if line < lines.len() {
-        lines[line].show(place);
-    }
+    on_line(lines, line, |line| line.show(place));
 }
 
 pub(crate) fn owe(lines: &mut [Line], line: usize, place: usize)
     ensures { lines.new ≡ slice_set lines.old line (owing place (slice_index_or lines.old line no_line)) }
 {
-    if line < lines.len() {
-        lines[line].owe(place);
-    }
+    on_line(lines, line, |line| line.owe(place));
 }
 
 // An instance that ranks the same as the one held at the place shows it.
@@ -38,9 +47,9 @@ pub(crate) fn show_same<K: Kind>(
 )
     ensures { lines.new ≡ slice_set lines.old line (showing K.model elements.now instance.now place (slice_index_or lines.old line no_line)) }
 {
-    if line < lines.len() {
-        show_if_same(&mut lines[line], elements, instance, place);
-    }
+    on_line(lines, line, |line| {
+        show_if_same(line, elements, instance, place);
+    });
 }
 
 fn show_if_same<K: Kind>(line: &mut Line, elements: &[K], instance: &K, place: usize)

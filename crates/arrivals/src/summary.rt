@@ -1,5 +1,5 @@
 // The descriptions of a summary, read once and then worked in their order.
-ghost use Rattle.std.specs.Prelude.{◌≡◌, ◌+◌, ◌<◌, ◌≤◌, List, [], ◌∷◌, ◌++◌, length, take};
+ghost use Rattle.std.specs.Prelude.{◌≡◌, ◌<◌, ◌≤◌, List, [], ◌∷◌, ◌++◌, length};
 ghost use Rattle.database.specs.Nodes.{world};
 ghost use Rattle.exchange.specs.Wanting.{described_all, lacks_places};
 ghost use Rattle.arrivals.specs.Readings.{described_at, described_in};
@@ -7,21 +7,20 @@ ghost use Rattle.arrivals.specs.Summaries.{descriptions_of, listed};
 ghost use Rattle.arrivals.specs.Walks.{entry_view};
 
 use crate::naming::{Naming, read_described};
-use crate::rows::first;
 use crate::walk::{Entry, Walk};
 use crate::want;
 use database::node::Node;
 use kinds::kind::Kind;
 use packets::ids::{Name, NodeId};
 use packets::layout::PacketType;
+use places::list;
 
 // What the groups of a summary take at most; a description takes 16 bytes of it.
 const MOST_BYTES: usize = 2032;
 
 #[derive(Drop)]
 pub struct Descriptions<K> {
-    all: [Naming<K>; 127],
-    count: usize,
+    all: list::List<Naming<K>, 127>,
 }
 
 impl<K: Kind> Descriptions<K> {
@@ -36,7 +35,7 @@ impl<K: Kind> Descriptions<K> {
     }
 
     fn none() -> Descriptions<K>
-        ensures { (result.count ≡ 0) × (length result.all ≡ 127) }
+        ensures { listed result ≡ [] }
     {
         let naming = Naming {
             name: Name {
@@ -46,8 +45,7 @@ impl<K: Kind> Descriptions<K> {
             instance: K::first(0, 0),
         };
         Descriptions {
-            all: [naming; 127],
-            count: 0,
+            all: list::List::new(naming),
         }
     }
 
@@ -65,14 +63,11 @@ impl<K: Kind> Descriptions<K> {
     }
 
     fn add(&mut self, entry: &Entry<'_>)
-        requires { (16 ≤ length entry.now.bytes.now) × ((self.old.count < 127) × (length self.old.all ≡ 127)) }
-        ensures listed { listed self.new ≡ listed self.old ++ described_at K.model (entry_view entry.now) ∷ [] }
-        ensures count { self.new.count ≡ self.old.count + 1 }
-        ensures length { length self.new.all ≡ 127 }
+        requires { (16 ≤ length entry.now.bytes.now) × (length (listed self.old) < 127) }
+        ensures { listed self.new ≡ listed self.old ++ described_at K.model (entry_view entry.now) ∷ [] }
     {
         if let Some(naming) = read_described(entry) {
-            self.all[self.count] = naming;
-            self.count += 1;
+            self.all.push(naming);
         }
     }
 
@@ -80,12 +75,12 @@ impl<K: Kind> Descriptions<K> {
     pub fn lacks_places(&self, node: &Node, elements: &[K], line: usize) -> bool
         ensures { (ws : List K) → result ≡ lacks_places K.model line (world node.now elements.now ws) (listed self.now) }
     {
-        want::is_short(node, elements, line, first(&self.all, self.count))
+        want::is_short(node, elements, line, self.all.as_slice())
     }
 
     pub fn describe_all(&self, node: &mut Node, elements: &[K], wanted: &mut [K], line: usize)
         ensures { world node.new elements.now wanted.new ≡ described_all K.model line (listed self.now) (world node.old elements.now wanted.old) }
     {
-        want::describe_each(node, elements, wanted, line, first(&self.all, self.count));
+        want::describe_each(node, elements, wanted, line, self.all.as_slice());
     }
 }

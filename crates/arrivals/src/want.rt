@@ -1,18 +1,18 @@
 // Which descriptions are wanted, and the wants that they open.
 ghost use Rattle.std.specs.Prelude.{◌≡◌, not, ◌&&◌, List, [], map, Some, slice_set};
 ghost use Rattle.database.specs.Nodes.{with_lines, world};
-ghost use Rattle.exchange.specs.Wanting.{described, described_all, free_places, is_want, lacks_places, needed, needs_for, needs_place, new_want, want_named, wanted_at, wanted_by};
+ghost use Rattle.exchange.specs.Wanting.{described, described_all, free_places, is_want, is_wanted, lacks_places, needed, needs_for, needs_place, new_want, want_named, wanted_by};
 ghost use Rattle.kinds.specs.Recency.{is_higher};
-ghost use Rattle.tables.specs.Searches.{is_free, place_of};
 ghost use Rattle.lines.specs.Tables.{some_where};
 ghost use Rattle.arrivals.specs.Readings.{naming_view};
+ghost use Rattle.arrivals.specs.Views.{viewed};
 
 use crate::marking;
 use crate::naming::Naming;
-use crate::rows::instance_at;
 use database::node::Node;
 use kinds::kind::Kind;
 use kinds::rank::Rank;
+use kinds::recency::instance_at;
 use lines::marks;
 use lines::marks::RESEND_LIMIT;
 use packets::ids::Name;
@@ -26,116 +26,84 @@ fn is_higher(rank: Rank) -> bool
     matches!(rank, Rank::Higher)
 }
 
-// The held instance ranks lower, or none is held and this one is unexpired.
-fn is_wanted<K: Kind>(node: &Node, elements: &[K], naming: &Naming<K>) -> bool
-    ensures { result ≡ wanted_at K.model elements.now naming.now.instance (place_of node.now.places naming.now.name) }
-{
-    match node.find(&naming.name) {
-        Some(place) => is_higher(naming.instance.rank(&instance_at(elements, place))),
-        None => !naming.instance.is_expired(),
-    }
-}
-
 fn is_want(want: &Option<Want>, line: usize, name: &Name) -> bool
     ensures { result ≡ is_want line name.now want.now }
 {
-    match want {
-        Some(open) => open.line == line && open.name.same(name),
-        None => false,
-    }
+    want.is_some_and(|open| open.line == line && open.name.same(name))
 }
 
 // The line's want of a name.
 fn find_named(wants: &[Option<Want>], line: usize, name: &Name) -> Option<usize>
     ensures { result ≡ want_named wants.now line name.now }
 {
-    for (place, want) in wants.iter().enumerate() {
-        if is_want(want, line, name) {
-            return Some(place);
+    wants.iter().position(|want| is_want(want, line, name))
+}
+
+// What a line's descriptions are held against.
+#[derive(Clone, Copy)]
+struct View<'a, K> {
+    node: &'a Node,
+    elements: &'a [K],
+    line: usize,
+}
+
+impl<'a, K: Kind> View<'a, K> {
+    // The held instance ranks lower, or none is held and this one is unexpired.
+    fn is_wanted(&self, naming: &Naming<K>) -> bool
+        ensures { result ≡ is_wanted K.model (viewed self.now) (naming_view naming.now) }
+    {
+        match self.node.find(&naming.name) {
+            Some(place) => is_higher(naming.instance.rank(&instance_at(self.elements, place))),
+            None => !naming.instance.is_expired(),
         }
     }
-    None
-}
 
-// Wanted, of a name that the line has no want of.
-fn needs_place<K: Kind>(node: &Node, elements: &[K], line: usize, naming: &Naming<K>) -> bool
-    ensures { result ≡ needs_place K.model line (world node.now elements.now []) (naming_view naming.now) }
-{
-    is_wanted(node, elements, naming) && find_named(&node.wants, line, &naming.name).is_none()
-}
-
-fn needs_for<K: Kind>(
-    node: &Node,
-    elements: &[K],
-    line: usize,
-    name: &Name,
-    naming: &Naming<K>,
-) -> bool
-    ensures { result ≡ needs_for K.model line (world node.now elements.now []) name.now (naming_view naming.now) }
-{
-    needs_place(node, elements, line, naming) && naming.name.same(name)
-}
-
-fn is_needed<K: Kind>(
-    node: &Node,
-    elements: &[K],
-    line: usize,
-    name: &Name,
-    namings: &[Naming<K>],
-) -> bool
-    ensures { result ≡ some_where (needs_for K.model line (world node.now elements.now []) name.now) (map naming_view namings.now) }
-{
-    for naming in namings.iter() {
-        if needs_for(node, elements, line, name, naming) {
-            return true;
-        }
+    // Wanted, of a name that the line has no want of.
+    fn needs_place(&self, naming: &Naming<K>) -> bool
+        ensures { result ≡ needs_place K.model self.now.line (viewed self.now) (naming_view naming.now) }
+    {
+        self.is_wanted(naming) && find_named(&self.node.wants, self.line, &naming.name).is_none()
     }
-    false
-}
 
-// Needed, and by none of the later descriptions.
-fn is_last_needed<K: Kind>(
-    node: &Node,
-    elements: &[K],
-    line: usize,
-    naming: &Naming<K>,
-    later: &[Naming<K>],
-) -> bool
-    ensures { result ≡ (needs_place K.model line (world node.now elements.now []) (naming_view naming.now) && not (some_where (needs_for K.model line (world node.now elements.now []) naming.now.name) (map naming_view later.now))) }
-{
-    needs_place(node, elements, line, naming)
-        && !is_needed(node, elements, line, &naming.name, later)
-}
-
-// The want places that descriptions need: as many as there are names of the needed ones.
-fn count_needed<K: Kind>(node: &Node, elements: &[K], line: usize, namings: &[Naming<K>]) -> usize
-    ensures { (ws : List K) → result ≡ needed K.model line (world node.now elements.now ws) (map naming_view namings.now) }
-{
-    let mut count = 0;
-    for (i, naming) in namings.iter().enumerate() {
-        if is_last_needed(node, elements, line, naming, &namings[i + 1..]) {
-            count += 1;
-        }
+    fn needs_for(&self, name: &Name, naming: &Naming<K>) -> bool
+        ensures { result ≡ needs_for K.model self.now.line (viewed self.now) name.now (naming_view naming.now) }
+    {
+        self.needs_place(naming) && naming.name.same(name)
     }
-    count
-}
 
-fn is_free(want: &Option<Want>) -> bool
-    ensures { result ≡ is_free want.now }
-{
-    want.is_none()
+    fn is_needed(&self, name: &Name, namings: &[Naming<K>]) -> bool
+        ensures { result ≡ some_where (needs_for K.model self.now.line (viewed self.now) name.now) (map naming_view namings.now) }
+    {
+        namings.iter().any(|naming| self.needs_for(name, naming))
+    }
+
+    // Needed, and by none of the later descriptions.
+    fn is_last_needed(&self, naming: &Naming<K>, later: &[Naming<K>]) -> bool
+        ensures { result ≡ (needs_place K.model self.now.line (viewed self.now) (naming_view naming.now) && not (some_where (needs_for K.model self.now.line (viewed self.now) naming.now.name) (map naming_view later.now))) }
+    {
+        self.needs_place(naming) && !self.is_needed(&naming.name, later)
+    }
+
+    // The want places that descriptions need: as many as there are names of the needed ones.
+    fn count_needed(&self, namings: &[Naming<K>]) -> usize
+        ensures { result ≡ needed K.model self.now.line (viewed self.now) (map naming_view namings.now) }
+    {
+        let mut count = 0;
+        let mut left = namings;
+        while let Some((naming, later)) = left.split_first() {
+            if self.is_last_needed(naming, later) {
+                count += 1;
+            }
+            left = later;
+        }
+        count
+    }
 }
 
 fn count_free(wants: &[Option<Want>]) -> usize
     ensures { result ≡ free_places wants.now }
 {
-    let mut count = 0;
-    for want in wants.iter() {
-        if is_free(want) {
-            count += 1;
-        }
-    }
-    count
+    wants.iter().filter(|want| want.is_none()).count()
 }
 
 // The descriptions need more want places than are free.
@@ -147,7 +115,12 @@ pub(crate) fn is_short<K: Kind>(
 ) -> bool
     ensures { (ws : List K) → result ≡ lacks_places K.model line (world node.now elements.now ws) (map naming_view namings.now) }
 {
-    count_free(&node.wants) < count_needed(node, elements, line, namings)
+    let view = View {
+        node,
+        elements,
+        line,
+    };
+    count_free(&node.wants) < view.count_needed(namings)
 }
 
 // A description shows the instance held, or is wanted.
@@ -168,7 +141,12 @@ pub fn describe<K: Kind>(
 fn want<K: Kind>(node: &mut Node, elements: &[K], wanted: &mut [K], line: usize, naming: &Naming<K>)
     ensures { world node.new elements.now wanted.new ≡ wanted_by K.model line (naming_view naming.now) (world node.old elements.now wanted.old) }
 {
-    if !is_wanted(node, elements, naming) {
+    let view = View {
+        node,
+        elements,
+        line,
+    };
+    if !view.is_wanted(naming) {
         return;
     }
     match find_named(&node.wants, line, &naming.name) {

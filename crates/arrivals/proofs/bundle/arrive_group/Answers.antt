@@ -2,7 +2,8 @@ use Rattle.std.proofs.Common.{◌≡◌, ◌+◌, ap, ◌∙◌}
 use Rattle.packets.specs.Bundles.{element_at}
 use Rattle.database.specs.Nodes.{world}
 use Rattle.exchange.specs.Arrivals.{acknowledgement_of, arrival_of, arrived, left_by, verdict_on}
-use Rattle.arrivals.specs.Bundles.{element_view, listed, noted}
+use Rattle.arrivals.specs.Bundles.{element_view, noted}
+use Rattle.places.specs.Lists.{listed}
 use Rattle.arrivals.proofs.WalkLaws.{past_none}
 use Rattle.arrivals.proofs.bundle.arrive_group.Goals as goal
 
@@ -15,7 +16,6 @@ returns-in-Some g c =
     let step = c.arrive_next.ensures in
     record {
       world = step.world ∙ ap (λ x. arrived ops c.args.line (arrival_of ops b.node.bytes b.group.bytes x) w) e;
-      listed = step.listed ∙ ap (λ x. noted (verdict_on ops (arrival_of ops b.node.bytes b.group.bytes x) w) (acknowledgement_of x) (listed c.args.arrivals.now)) e;
-      count = step.count;
+      acknowledged = step.acknowledged ∙ ap (λ x. noted (verdict_on ops (arrival_of ops b.node.bytes b.group.bytes x) w) (acknowledgement_of x) (listed c.args.arrivals.now.acknowledged)) e;
       left = step.left ∙ ap (λ x. c.args.arrivals.now.left + left_by (verdict_on ops (arrival_of ops b.node.bytes b.group.bytes x) w)) e;
     }

@@ -1,13 +1,11 @@
-use Rattle.std.proofs.Common.{None}
+use Rattle.std.proofs.Common.{rules, tests, ◌∙◌}
+use Rattle.std.proofs.lemmas.Iterator.{YieldsList-from_slice}
+use Rattle.std.proofs.lemmas.Iterator.Search.{position_from_yields_List}
 use Rattle.exchange.specs.Wanting.{is_want}
-use Rattle.lines.proofs.TableLaws.{first_here, first_more, first_none}
+use Rattle.tables.proofs.SearchLaws.{first_position}
 use Rattle.arrivals.proofs.want.find_named.Goals as goal
 
-pub returns-then-is_want : goal.returns-then-is_want
-returns-then-is_want c = first_here (is_want c.args.line c.args.name.now) c.args.wants.now c.loop-place.place None c.loop-place-test.true c.if-is_want.ensures c.loop-place.invariant
-
-pub loop-place-preserved : goal.loop-place-preserved
-loop-place-preserved c = first_more (is_want c.args.line c.args.name.now) c.args.wants.now c.loop-place.place None c.loop-place-test.true c.if-is_want.ensures c.loop-place.invariant
-
 pub returns : goal.returns
-returns c = first_none (is_want c.args.line c.args.name.now) c.args.wants.now c.loop-place.place c.loop-place-test.false c.loop-place.invariant
+returns c =
+    position_from_yields_List (is_want c.args.line c.args.name.now) _ _ _ c.position.ensures.ran (YieldsList-from_slice c.args.wants.now (cc)) (λ x b q k. search (rules, tests))
+    ∙ first_position (is_want c.args.line c.args.name.now) c.args.wants.now

@@ -1,5 +1,8 @@
-use Rattle.std.proofs.Common.{◌≡◌, [], ◌∷◌, ◌++◌, map, take, refl, ap, ◌∙◌, arith}
-use Rattle.std.proofs.lemmas.List.{length-set, map_push, take_more_set}
+use Rattle.std.proofs.Common.{◌≡◌, [], ◌∷◌, ◌++◌, map, ap, ◌∙◌, length, arith}
+use Rattle.std.proofs.lemmas.Bool.{cond-true, lt-ltb}
+use Rattle.std.proofs.lemmas.List.{map_push}
+use lib.ListN.{length-map}
+use Rattle.places.specs.Lists.{listed as items}
 use Rattle.arrivals.specs.Readings.{described_at, naming_view}
 use Rattle.arrivals.specs.Summaries.{listed}
 use Rattle.arrivals.specs.Walks.{entry_view}
@@ -11,8 +14,5 @@ returns-in-Some g c =
     let d = c.args.self.now in
     let x = c.in-Some.naming in
     let e : naming_view x ≡ described_at g.K.Kind.model (entry_view c.args.entry.now) = (past_none _ _ _ c.in-Some.ensures).1 in
-    record {
-      listed = ap (map naming_view) (take_more_set d.all d.count x (omega (arith, c.requires.1))) ∙ map_push naming_view (take d.count d.all) x ∙ ap (λ m. listed d ++ m ∷ []) e;
-      count = refl;
-      length = length-set d.all d.count x ∙ c.requires.1.1;
-    }
+    let n = length-map (items d.all) naming_view in
+    ap (map naming_view) (c.push.ensures ∙ cond-true _ _ _ (lt-ltb (length (items d.all)) 127 (omega (arith, c.requires.1)))) ∙ map_push naming_view (items d.all) x ∙ ap (λ m. listed d ++ m ∷ []) e

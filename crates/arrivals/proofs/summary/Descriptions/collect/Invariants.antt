@@ -7,8 +7,7 @@ use Rattle.arrivals.proofs.summary.Descriptions.collect.Given as goal
 
 abbrev pub invariant-loop-entry : goal.invariant-loop-entry
 invariant-loop-entry g l =
-    (length l.descriptions.all ≡ 127)
-    × (l.descriptions.count + length (ahead Summary l.walk) ≤ 127)
+    (length (listed l.descriptions) + length (ahead Summary l.walk) ≤ 127)
     × (listed l.descriptions ++ map (described_at g.K.Kind.model) (ahead Summary l.walk) ≡ described_in g.K.Kind.model l.groups)
 
 abbrev pub decreases-loop-entry : goal.decreases-loop-entry
