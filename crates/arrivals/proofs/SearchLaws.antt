@@ -1,18 +1,9 @@
 -- What chains over a table give, in the words of the tables. Assumes nothing.
-use Rattle.std.proofs.Common.{◌≡◌, Bool, ◌||◌, true, false, cond, List, [], ◌∷◌, length, Some, None, Option, map, refl, ap, arith}
-use Rattle.std.specs.List.{filter, list_any}
+use Rattle.std.proofs.Common.{◌≡◌, Bool, true, cond, List, [], ◌∷◌, length, Some, None, Option, map, refl, ap, arith}
+use Rattle.std.specs.List.{filter}
 use Rattle.exchange.specs.Wanting.{free_places}
 use Rattle.lines.specs.Tables.{some_where}
 use Rattle.tables.specs.Searches.{is_free}
-
-module _ {X : Type 0} (p : X → Bool) where
-  also : (b c d : Bool) → c ≡ d → b || c ≡ cond b true d
-  also true c d e = refl
-  also false c d e = e
-
-  pub some_as : (xs : List X) → list_any p xs ≡ some_where p xs
-  some_as [] = refl
-  some_as (x ∷ xs) = also (p x) _ _ (some_as xs)
 
 pub some_map : {X Y : Type 0} (p : Y → Bool) (f : X → Y) (xs : List X) → some_where (λ x. p (f x)) xs ≡ some_where p (map f xs)
 some_map p f [] = refl

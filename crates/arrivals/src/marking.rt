@@ -1,7 +1,5 @@
 // What becomes of one line; a line past the end of the table has nothing to change.
-ghost use Rattle.std.specs.Prelude.{◌≡◌, ◌<◌, ◌≤◌, length, slice_index_or, slice_set};
-ghost use Rattle.std.specs.Fn.{FnOnceReturnsAtMut};
-ghost use Rattle.lines.specs.declared.line.Line.{Line};
+ghost use Rattle.std.specs.Prelude.{◌≡◌, slice_index_or, slice_set};
 ghost use Rattle.lines.specs.Lines.{no_line, owing, shown};
 ghost use Rattle.arrivals.specs.Readings.{naming_view};
 ghost use Rattle.exchange.specs.Showings.{shown_by, showing};
@@ -11,30 +9,20 @@ use kinds::kind::Kind;
 use kinds::rank::Rank;
 use kinds::recency::instance_at;
 use lines::line::Line;
+use lines::marks::change_at;
 use tables::element::Element;
 use tables::search::find_in;
-
-// Stays: the bound is tested by hand, since `get_mut` says nothing of what the slice is afterwards.
-fn on_line<F: FnOnce(&mut Line)>(lines: &mut [Line], line: usize, change: F)
-    requires { F.IsAlwaysCallable change }
-    ensures within { line < length lines.old → (next : Line) × FnOnceReturnsAtMut F.FnOnce change (slice_index_or lines.old line no_line) tt next × (lines.new ≡ slice_set lines.old line next) }
-    ensures past { length lines.old ≤ line → lines.new ≡ lines.old }
-{
-    if line < lines.len() {
-        change(&mut lines[line]);
-    }
-}
 
 pub(crate) fn show(lines: &mut [Line], line: usize, place: usize)
     ensures { lines.new ≡ slice_set lines.old line (shown place (slice_index_or lines.old line no_line)) }
 {
-    on_line(lines, line, |line| line.show(place));
+    change_at(lines, line, |line| line.show(place));
 }
 
 pub(crate) fn owe(lines: &mut [Line], line: usize, place: usize)
     ensures { lines.new ≡ slice_set lines.old line (owing place (slice_index_or lines.old line no_line)) }
 {
-    on_line(lines, line, |line| line.owe(place));
+    change_at(lines, line, |line| line.owe(place));
 }
 
 // An instance that ranks the same as the one held at the place shows it.
@@ -47,7 +35,7 @@ pub(crate) fn show_same<K: Kind>(
 )
     ensures { lines.new ≡ slice_set lines.old line (showing K.model elements.now instance.now place (slice_index_or lines.old line no_line)) }
 {
-    on_line(lines, line, |line| {
+    change_at(lines, line, |line| {
         show_if_same(line, elements, instance, place);
     });
 }
