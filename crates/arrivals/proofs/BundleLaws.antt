@@ -12,7 +12,7 @@ use Rattle.tables.specs.declared.verdict.Verdict.TheVariants.{Same, Newer, Older
 use Rattle.database.specs.Nodes.{World}
 use Rattle.exchange.specs.Arrivals.{acknowledged_of, acknowledgement_of, arrival_of, arrived, bundle_world, is_acknowledged, left_by, left_of, verdict_on}
 use Rattle.arrivals.specs.Bundles.{elements_in, noted}
-use Rattle.arrivals.proofs.WalkLaws.{contents_next, contents_stop, split_takes}
+use Rattle.packets.proofs.GroupLaws.{contents_next, contents_stop, split_takes}
 
 -- what is noted now stands before what comes later
 noted_before : (b : Bool) (a : Acknowledged) (xs ys : List Acknowledged) → cond b (xs ++ a ∷ []) xs ++ ys ≡ xs ++ cond b (a ∷ ys) ys

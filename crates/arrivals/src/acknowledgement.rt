@@ -1,17 +1,17 @@
 // How a neighbour shows what is held.
-ghost use Rattle.std.specs.Prelude.{◌≡◌, ◌≤◌, length, slice_index_or, slice_set};
+ghost use Rattle.std.specs.Prelude.{◌≡◌, slice_index_or, slice_set};
 ghost use Rattle.database.specs.Nodes.{with_lines};
-ghost use Rattle.exchange.specs.Showings.{shown_all, shown_by};
+ghost use Rattle.exchange.specs.Showings.{shown_all};
 ghost use Rattle.lines.specs.Lines.{no_line};
-ghost use Rattle.arrivals.specs.Readings.{acknowledged_at, acknowledged_in};
-ghost use Rattle.arrivals.specs.Walks.{entry_view};
+ghost use Rattle.arrivals.specs.Readings.{acknowledged_in};
 
 use crate::marking;
-use crate::naming::read_acknowledged;
-use crate::walk::{Entry, Walk};
+use crate::naming::Naming;
+use crate::walk::Walk;
 use database::node::Node;
 use kinds::kind::Kind;
 use lines::line::Line;
+use packets::acknowledgement::Acknowledged;
 use packets::layout::PacketType;
 use tables::element::Element;
 
@@ -31,24 +31,8 @@ fn show_each<K: Kind>(
 )
     ensures { lines.new ≡ slice_set lines.old line (shown_all K.model places.now elements.now (acknowledged_in K.model groups.now) (slice_index_or lines.old line no_line)) }
 {
-    let mut walk = Walk::start(PacketType::Acknowledgement, groups);
-    while let Some((entry, rest)) = walk.next(PacketType::Acknowledgement) {
-        show_entry(lines, line, places, elements, &entry);
-        walk = rest;
-    }
-}
-
-fn show_entry<K: Kind>(
-    lines: &mut [Line],
-    line: usize,
-    places: &[Option<Element>],
-    elements: &[K],
-    entry: &Entry<'_>,
-)
-    requires { 12 ≤ length entry.now.bytes.now }
-    ensures { lines.new ≡ slice_set lines.old line (shown_by K.model places.now elements.now (acknowledged_at K.model (entry_view entry.now)) (slice_index_or lines.old line no_line)) }
-{
-    if let Some(naming) = read_acknowledged(entry) {
+    for (node, entry) in Walk::<Acknowledged>::start(PacketType::Acknowledgement, groups) {
+        let naming = Naming::read(node, entry.number, entry.instance);
         marking::show_named(lines, line, places, elements, &naming);
     }
 }

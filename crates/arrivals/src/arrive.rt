@@ -8,6 +8,7 @@ ghost use Rattle.tables.specs.Verdicts.{rank_at, verdict_of};
 ghost use Rattle.arrivals.specs.Elements.{arriving};
 
 use crate::marking;
+use database::entry::Arrival;
 use database::node::Node;
 use kinds::kind::Kind;
 use kinds::rank::Rank;
@@ -29,11 +30,16 @@ pub fn arrive<K: Kind>(
     ensures verdict { result ≡ verdict_on K.model (arriving element instance body.now) (world node.old elements.old wanted.now) }
     ensures world { world node.new elements.new wanted.now ≡ arrived K.model line (arriving element instance body.now) (world node.old elements.old wanted.now) }
 {
+    let arrival = Arrival {
+        element,
+        instance,
+        body,
+    };
     let verdict = judge(node, elements, &element, &instance);
     match verdict {
         Verdict::Same(place) => marking::show(&mut node.lines, line, place),
         Verdict::Newer(place) | Verdict::New(place) => {
-            enter(node, elements, wanted, place, element, instance, body);
+            enter(node, elements, wanted, place, arrival);
             marking::show_same(&mut node.lines, line, elements, &instance, place);
         }
         Verdict::Older(place) => marking::owe(&mut node.lines, line, place),
@@ -67,15 +73,18 @@ fn enter<K: Kind>(
     elements: &mut [K],
     wanted: &[K],
     place: usize,
-    element: Element,
-    instance: K,
-    body: &[u8],
+    arrival: Arrival<'_, K>,
 )
-    ensures { world node.new elements.new wanted.now ≡ entered_as K.model place (arriving element instance body.now) (world node.old elements.old wanted.now) }
+    ensures { world node.new elements.new wanted.now ≡ entered_as K.model place (arriving arrival.entry.element arrival.entry.instance arrival.entry.body.now) (world node.old elements.old wanted.now) }
 {
-    if element.name.node.same(&node.id) && !instance.is_expired() {
-        node.enter(elements, wanted, place, element, instance.expired(), &[]);
+    let entry = if arrival.element.name.node.same(&node.id) && !arrival.instance.is_expired() {
+        Arrival {
+            instance: arrival.instance.expired(),
+            body: &[],
+            ..arrival
+        }
     } else {
-        node.enter(elements, wanted, place, element, instance, body);
-    }
+        arrival
+    };
+    node.enter(elements, wanted, place, entry);
 }

@@ -1,18 +1,18 @@
 // The descriptions of a summary, read once and then worked in their order.
-ghost use Rattle.std.specs.Prelude.{◌≡◌, ◌<◌, ◌≤◌, List, [], ◌∷◌, ◌++◌, length};
+ghost use Rattle.std.specs.Prelude.{◌≡◌, ◌≤◌, List, [], length};
 ghost use Rattle.database.specs.Nodes.{world};
 ghost use Rattle.exchange.specs.Wanting.{described_all, lacks_places};
-ghost use Rattle.arrivals.specs.Readings.{described_at, described_in};
+ghost use Rattle.arrivals.specs.Readings.{described_in};
 ghost use Rattle.arrivals.specs.Summaries.{descriptions_of, listed};
-ghost use Rattle.arrivals.specs.Walks.{entry_view};
 
-use crate::naming::{Naming, read_described};
-use crate::walk::{Entry, Walk};
+use crate::naming::Naming;
+use crate::walk::Walk;
 use crate::want;
 use database::node::Node;
 use kinds::kind::Kind;
 use packets::ids::{Name, NodeId};
 use packets::layout::PacketType;
+use packets::summary::Description;
 use places::list;
 
 // What the groups of a summary take at most; a description takes 16 bytes of it.
@@ -54,21 +54,11 @@ impl<K: Kind> Descriptions<K> {
         ensures { listed result ≡ described_in K.model groups.now }
     {
         let mut descriptions = Descriptions::none();
-        let mut walk = Walk::start(PacketType::Summary, groups);
-        while let Some((entry, rest)) = walk.next(PacketType::Summary) {
-            descriptions.add(&entry);
-            walk = rest;
+        for (node, entry) in Walk::<Description>::start(PacketType::Summary, groups) {
+            let naming = Naming::read(node, entry.number, entry.instance);
+            descriptions.all.push(naming);
         }
         descriptions
-    }
-
-    fn add(&mut self, entry: &Entry<'_>)
-        requires { (16 ≤ length entry.now.bytes.now) × (length (listed self.old) < 127) }
-        ensures { listed self.new ≡ listed self.old ++ described_at K.model (entry_view entry.now) ∷ [] }
-    {
-        if let Some(naming) = read_described(entry) {
-            self.all.push(naming);
-        }
     }
 
     // They need more want places than are free.

@@ -1,101 +1,71 @@
 // The entries of all groups of a packet, one after the other.
-ghost use Rattle.std.specs.Prelude.{◌≡◌, ◌≤◌, [], length, Some};
-ghost use Rattle.packets.specs.Layouts.{group_fixed_of};
-ghost use Rattle.arrivals.specs.Walks.{Opens, Steps, ahead, entry_size, in_groups};
+ghost use Rattle.std.specs.Prelude.{◌≡◌, []};
+ghost use Rattle.std.specs.Iterator.{YieldsFirst, item_count};
+ghost use Rattle.packets.specs.Entries.{entries_left};
+ghost use Rattle.packets.specs.Groups.{groups_left};
+ghost use Rattle.arrivals.specs.Walks.{ahead, in_group, in_groups, under};
 
-use packets::group::split_group;
+use packets::entry::{Entries, Entry};
+use packets::group::Groups;
 use packets::ids::NodeId;
 use packets::layout::PacketType;
 
-// The node ID of an entry's group, and the bytes of the group from the entry on.
-#[derive(Clone, Copy)]
-pub(crate) struct Entry<'a> {
-    pub node: NodeId,
-    pub bytes: &'a [u8],
-}
-
 // The entries left of the present group, and the groups behind it.
-#[derive(Clone, Copy)]
-pub(crate) struct Walk<'a> {
+#[derive(Drop)]
+pub(crate) struct Walk<'a, E> {
     node: NodeId,
-    entries: &'a [u8],
-    groups: &'a [u8],
+    entries: Entries<'a, E>,
+    groups: Groups<'a>,
+    // How many bytes stand between the node ID of a group and its entries.
+    skip: usize,
 }
 
-// An element has no entries.
-fn entry_size(of: PacketType) -> usize
-    ensures { result ≡ entry_size of }
-{
-    match of {
-        PacketType::Acknowledgement => 12,
-        PacketType::Bundle | PacketType::Summary => 16,
-        PacketType::Request => 4,
-    }
-}
-
-impl<'a> Walk<'a> {
+impl<'a, E: Entry> Walk<'a, E> {
     // Before the first group.
-    pub(crate) fn start(of: PacketType, groups: &'a [u8]) -> Walk<'a>
-        ensures { ahead of result ≡ in_groups of (length groups.now) groups.now }
+    pub(crate) fn start(of: PacketType, groups: &'a [u8]) -> Walk<'a, E>
+        ensures { ahead E.at E.size result ≡ in_groups E.at E.size of groups.now }
     {
         Walk {
             node: NodeId { bytes: [0; 22] },
-            entries: &[],
-            groups,
+            entries: Entries::new(&[]),
+            groups: Groups::new(of, groups),
+            skip: of.group_fixed().saturating_sub(26),
         }
     }
 
-    // Into the first group.
-    fn open(of: PacketType, groups: &'a [u8]) -> Option<Walk<'a>>
-        requires { 28 ≤ group_fixed_of of }
-        ensures { Opens of groups.now result }
+    // Into a group, when the one before it is done.
+    fn open(&mut self, content: &'a [u8])
+        requires { entries_left E.at E.size self.old.entries ≡ [] }
+        ensures entries { under E.at E.size self.new.node (entries_left E.at E.size self.new.entries) ≡ in_group E.at E.size self.old.skip content.now }
+        ensures groups { self.new.groups ≡ self.old.groups }
+        ensures skip { self.new.skip ≡ self.old.skip }
     {
-        let Ok(group) = split_group(of, groups) else {
-            return None;
+        let Some((node, rest)) = content.split_first_chunk::<22>() else {
+            return;
         };
-        let (node, _) = group.content.split_first_chunk::<22>()?;
-        let (_, entries) = group.content.split_at(of.group_fixed() - 4);
-        Some(Walk {
-            node: NodeId { bytes: *node },
-            entries,
-            groups: group.rest,
-        })
+        let Some((_, entries)) = rest.split_at_checked(self.skip) else {
+            return;
+        };
+        self.node = NodeId { bytes: *node };
+        self.entries = Entries::new(entries);
     }
+}
 
-    // The next entry, past groups that have none.
-    pub(crate) fn next(self, of: PacketType) -> Option<(Entry<'a>, Walk<'a>)>
-        requires { 28 ≤ group_fixed_of of }
-        ensures { Steps of self.entry result }
-    {
-        let mut walk = self;
-        while walk.entries.len() < entry_size(of) {
-            let Some(group) = Walk::open(of, walk.groups) else {
-                return None;
-            };
-            walk = group;
+// Each entry comes with the node ID of its group.
+impl<'a, E: Entry> Iterator for Walk<'a, E> {
+    type Item = (NodeId, E);
+
+    ghost next_gives = { YieldsFirst (ahead E.at E.size) };
+
+    ghost remaining = { item_count (ahead E.at E.size) };
+
+    fn next(&mut self) -> Option<(NodeId, E)> {
+        loop {
+            if let Some(entry) = self.entries.next() {
+                return Some((self.node, entry));
+            }
+            let content = self.groups.next()?;
+            self.open(content);
         }
-        Some(walk.step(of))
-    }
-
-    fn step(self, of: PacketType) -> (Entry<'a>, Walk<'a>)
-        requires { entry_size of ≤ length self.entries.now }
-        ensures { Steps of self.entry (Some result) }
-    {
-        let Walk {
-            node,
-            entries,
-            groups,
-        } = self;
-        let (_, behind) = entries.split_at(entry_size(of));
-        let entry = Entry {
-            node,
-            bytes: entries,
-        };
-        let walk = Walk {
-            node,
-            entries: behind,
-            groups,
-        };
-        (entry, walk)
     }
 }

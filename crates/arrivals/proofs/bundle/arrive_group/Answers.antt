@@ -4,7 +4,7 @@ use Rattle.database.specs.Nodes.{world}
 use Rattle.exchange.specs.Arrivals.{acknowledgement_of, arrival_of, arrived, left_by, verdict_on}
 use Rattle.arrivals.specs.Bundles.{element_view, noted}
 use Rattle.places.specs.Lists.{listed}
-use Rattle.arrivals.proofs.WalkLaws.{past_none}
+use Rattle.packets.proofs.EntryLaws.{past_none}
 use Rattle.arrivals.proofs.bundle.arrive_group.Goals as goal
 
 pub returns-in-Some : goal.returns-in-Some

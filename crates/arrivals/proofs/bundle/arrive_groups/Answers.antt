@@ -2,7 +2,7 @@ use Rattle.std.proofs.Common.{arith}
 use Rattle.packets.specs.declared.layout.PacketType.TheVariants.{Bundle}
 use Rattle.packets.specs.Groups.{Split}
 use Rattle.arrivals.proofs.BundleLaws.{worked_none, worked_room, worked_more, worked_all}
-use Rattle.arrivals.proofs.WalkLaws.{split_takes}
+use Rattle.packets.proofs.GroupLaws.{split_takes}
 use Rattle.arrivals.proofs.bundle.arrive_groups.Goals as goal
 
 pub loop-group-init : goal.loop-group-init

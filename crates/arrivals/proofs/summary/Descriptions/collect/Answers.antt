@@ -1,41 +1,40 @@
-use Rattle.std.proofs.Common.{[], ◌∷◌, ◌++◌, length-append, map, length, ap, ◌∙◌, arith, rules}
-use Rattle.packets.specs.declared.layout.PacketType.TheVariants.{Summary}
-use Rattle.arrivals.specs.Readings.{described_at}
+use Rattle.std.proofs.Common.{◌≡◌, [], ◌∷◌, ◌++◌, map, length, ap, ◌∙◌, arith, length-append}
+use lib.ListN.{length-map}
+use Rattle.std.proofs.lemmas.Bool.{cond-true, lt-ltb}
+use Rattle.std.proofs.lemmas.List.{map_push}
+use Rattle.packets.specs.Summaries.{description_at}
+use Rattle.places.specs.Lists.{listed as items}
+use Rattle.arrivals.specs.Readings.{described_at, naming_view}
 use Rattle.arrivals.specs.Summaries.{listed}
-use Rattle.arrivals.specs.Walks.{ahead, entry_view}
+use Rattle.arrivals.specs.Walks.{ahead}
 use Rattle.arrivals.proofs.ReadingLaws.{described_met}
-use Rattle.arrivals.proofs.SummaryLaws.{read_more, read_all, summary_short}
+use Rattle.arrivals.proofs.SummaryLaws.{read_more, summary_short}
 use Rattle.arrivals.proofs.summary.Descriptions.collect.Goals as goal
 
-pub loop-entry-init : goal.loop-entry-init
-loop-entry-init g c =
+pub loop-node-init : goal.loop-node-init
+loop-node-init g c =
     let ops = g.K.Kind.model in
     let none = c.none-descriptions.ensures in
+    let s = ap (ahead description_at 16) c.into_iter-node-iterator.ensures.into_iter_gives ∙ c.start-node-items.ensures in
     let n = ap length none in
-    let l = ap length c.start-walk.ensures in (
-      omega (arith, summary_short c.args.groups.now, c.requires),
-      ap (λ ms. ms ++ map (described_at ops) (ahead Summary c.start-walk.result)) none ∙ ap (map (described_at ops)) c.start-walk.ensures ∙ described_met ops c.args.groups.now,
+    let l = ap length s in (
+      omega (arith, summary_short description_at c.args.groups.now, c.requires),
+      ap (λ ms. ms ++ map (described_at ops) (ahead description_at 16 c.into_iter-node-iterator.result)) none ∙ ap (map (described_at ops)) s ∙ described_met ops c.args.groups.now,
     )
 
-pub add-requires : goal.add-requires
-add-requires g c =
-    let inv = c.loop-entry.invariant in
-    let l = ap length c.in-Some.ensures.0 in
-    (search rules, (c.in-Some.ensures.1, omega (arith, inv.0)))
-
-pub loop-entry-smaller : goal.loop-entry-smaller
-loop-entry-smaller g c = let l = ap length c.in-Some.ensures.0 in omega arith
-
-pub loop-entry-preserved : goal.loop-entry-preserved
-loop-entry-preserved g c =
-    let inv = c.loop-entry.invariant in
-    let added = c.add.ensures in
-    let n = ap length added in
-    let a = length-append (listed c.loop-entry.descriptions) (described_at g.K.Kind.model (entry_view c.in-Some.entry) ∷ []) in
-    let l = ap length c.in-Some.ensures.0 in (
+pub loop-node-preserved : goal.loop-node-preserved
+loop-node-preserved g c =
+    let ops = g.K.Kind.model in
+    let d = c.loop-node.descriptions in
+    let inv = c.loop-node.invariant in
+    let x = described_at ops (c.in-Some.node, c.in-Some.entry) in
+    let n : length (listed d) ≡ length (items d.all) = length-map (items d.all) naming_view in
+    let l = ap length c.in-Some.ensures.steps in
+    let added : map naming_view (items c.push.new.self) ≡ listed d ++ x ∷ [] =
+        ap (map naming_view) (c.push.ensures ∙ cond-true _ _ _ (lt-ltb (length (items d.all)) 127 (omega (arith, inv.0))))
+        ∙ map_push naming_view (items d.all) c.read-naming.result ∙ ap (λ m. listed d ++ m ∷ []) c.read-naming.ensures in
+    let m = ap length added in
+    let a = length-append (listed d) (x ∷ []) in (
       omega (arith, inv.0),
-      read_more (listed c.loop-entry.descriptions) _ _ _ _ _ added (ap (map (described_at g.K.Kind.model)) c.in-Some.ensures.0) inv.1,
+      read_more (listed d) _ _ _ _ _ added (ap (map (described_at ops)) c.in-Some.ensures.steps) inv.1,
     )
-
-pub returns : goal.returns
-returns g c = read_all (listed c.loop-entry.descriptions) _ _ (ap (map (described_at g.K.Kind.model)) c.in_default.ensures) c.loop-entry.invariant.1

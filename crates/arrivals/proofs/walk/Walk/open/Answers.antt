@@ -1,15 +1,23 @@
-use Rattle.std.proofs.Common.{◌≡◌, ◌-◌, take, drop, ap, ◌∙◌, arith, rules}
-use Rattle.packets.specs.Groups.{Split}
-use Rattle.packets.specs.Layouts.{group_fixed_of}
-use Rattle.arrivals.proofs.WalkLaws.{opened, unopened, split_takes}
+use Rattle.std.proofs.Common.{◌≡◌, ◌<◌, length, take, drop, ap, ◌∙◌, arith, rules, length-drop}
+use Rattle.arrivals.proofs.WalkLaws.{opened, opened_none}
 use Rattle.arrivals.proofs.walk.Walk.open.Goals as goal
 
-pub returns-in_default : goal.returns-in_default
-returns-in_default c = unopened c.args.of c.args.groups.now c.in_default.field-0 c.in_default.ensures
+pub returns-clause-entries : goal.returns-clause-entries
+returns-clause-entries g c =
+    let n : c.in-Some.node.now ≡ take 22 c.args.content.now = search rules in
+    let r : c.in-Some.rest.now ≡ drop 22 c.args.content.now = search rules in
+    let d : c.in-Some-split_at_checked.entries.now ≡ drop c.args.self.now.skip c.in-Some.rest.now = search rules in
+    opened g.E.Entry.at g.E.Entry.size g.met.E.Entry.some (record { bytes = c.in-Some.node.now }) _ c.args.self.now.skip c.args.content.now c.in-Some-split_at_checked.entries.now n (d ∙ ap (drop c.args.self.now.skip) r) c.new-self.ensures
 
-pub returns : goal.returns
-returns c =
-    let s : Split = record { content = c.in-Ok.group.content.now; rest = c.in-Ok.group.rest.now } in
-    let n : c.in_ok-node.node.now ≡ take 22 s.content = search rules in
-    let e : c.split_at.result.1.now ≡ drop (group_fixed_of c.args.of - 4) s.content = c.split_at.ensures.back ∙ ap (λ k. drop (k - 4) s.content) c.group_fixed.ensures in
-    (opened c.args.of c.args.groups.now s _ _ c.in-Ok.ensures n e, omega (arith, (split_takes c.args.of c.args.groups.now s c.in-Ok.ensures).0))
+pub returns-in_default-clause-entries : goal.returns-in_default-clause-entries
+returns-in_default-clause-entries g c =
+    let l : length c.args.content.now < 22 = search rules in
+    opened_none g.E.Entry.at g.E.Entry.size g.met.E.Entry.some c.args.self.now.node _ c.args.self.now.skip c.args.content.now c.requires (omega arith)
+
+pub returns-in_default-split_at_checked-clause-entries : goal.returns-in_default-split_at_checked-clause-entries
+returns-in_default-split_at_checked-clause-entries g c =
+    let r : c.in-Some.rest.now ≡ drop 22 c.args.content.now = search rules in
+    let k = ap length r in
+    let m = length-drop 22 c.args.content.now in
+    let l : length c.in-Some.rest.now < c.args.self.now.skip = search rules in
+    opened_none g.E.Entry.at g.E.Entry.size g.met.E.Entry.some c.args.self.now.node _ c.args.self.now.skip c.args.content.now c.requires (omega arith)
