@@ -1,16 +1,15 @@
 -- A walk over the entries of a packet meets what the packet says. Assumes nothing.
-use Rattle.std.proofs.Common.{◌≡◌, ℕ, List, map, length, take, drop, sym, refl, ap, ◌∙◌}
+use Rattle.std.proofs.Common.{◌≡◌, ℕ, List, map, length, take, drop, sym, ap, ◌∙◌}
 use mathlib.Core.List.{map-map}
 use Rattle.std.proofs.lemmas.List.{drop-drop}
 use Rattle.kinds.specs.Kinds.{Operations}
-use Rattle.packets.specs.declared.ids.NodeId.{NodeId}
 use Rattle.packets.specs.declared.layout.PacketType.TheVariants.{Acknowledgement, Summary, Request}
 use Rattle.packets.specs.Acknowledgements.{entry_at}
 use Rattle.packets.specs.Contents.{entries, acknowledged_group, described_group, requested_group}
 use Rattle.packets.specs.Groups.{contents}
 use Rattle.packets.specs.Requests.{number_at}
 use Rattle.packets.specs.Summaries.{description_at}
-use Rattle.exchange.specs.Namings.{acknowledged_by, described_by, naming, name_of, requested_by}
+use Rattle.exchange.specs.Namings.{acknowledged_by, described_by, naming, requested_by}
 use Rattle.arrivals.specs.Readings.{acknowledged_at, acknowledged_in, described_at, described_in, requested_at, requested_in}
 use Rattle.arrivals.specs.Walks.{in_group, in_groups}
 use Rattle.arrivals.proofs.WalkLaws.{each_as}

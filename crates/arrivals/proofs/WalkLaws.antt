@@ -1,6 +1,6 @@
 -- Steps of a walk over the entries of a packet. Assumes nothing.
-use Rattle.std.proofs.Common.{◌≡◌, ℕ, ◌-◌, ◌<◌, ◌≤◌, ◌+◌, List, [], ◌∷◌, ◌++◌, map, length, take, drop, sym, refl, ap, ◌∙◌, arith, length-drop}
-use Rattle.std.proofs.lemmas.List.{append_assoc, map-append}
+use Rattle.std.proofs.Common.{◌≡◌, ℕ, ◌<◌, ◌+◌, List, [], ◌∷◌, ◌++◌, map, length, take, drop, sym, refl, ap, ◌∙◌, arith, length-drop}
+use Rattle.std.proofs.lemmas.List.{map-append}
 use Rattle.packets.specs.declared.ids.NodeId.{NodeId}
 use Rattle.packets.specs.declared.layout.PacketType.{PacketType}
 use Rattle.packets.specs.Contents.{entries}

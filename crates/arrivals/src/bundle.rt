@@ -12,7 +12,7 @@ use kinds::kind::Kind;
 use packets::acknowledgement::Acknowledged;
 use packets::bundle;
 use packets::bundle::Bundle;
-use packets::group::split_group;
+use packets::group::Groups;
 use packets::ids::Name;
 use packets::layout::PacketType;
 use places::list::List;
@@ -90,18 +90,16 @@ fn arrive_groups<K: Kind>(
     ensures left { result.left ≡ left_of K.model line bundle.now.node.bytes bundle.now.group.bytes (elements_in bundle.now.groups.now) (world node.old elements.old wanted.now) }
 {
     let mut arrivals = Arrivals::none();
-    let mut rest = bundle.groups;
-    while let Ok(group) = split_group(PacketType::Bundle, rest) {
+    for content in Groups::new(PacketType::Bundle, bundle.groups) {
         arrive_group(
             node,
             elements,
             wanted,
             line,
             bundle,
-            group.content,
+            content,
             &mut arrivals,
         );
-        rest = group.rest;
     }
     arrivals
 }

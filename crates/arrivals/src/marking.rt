@@ -9,7 +9,7 @@ use kinds::kind::Kind;
 use kinds::rank::Rank;
 use kinds::recency::instance_at;
 use lines::line::Line;
-use lines::marks::change_at;
+use places::row::change_at;
 use tables::element::Element;
 use tables::search::find_in;
 

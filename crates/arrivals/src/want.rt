@@ -13,10 +13,10 @@ use database::node::Node;
 use kinds::kind::Kind;
 use kinds::rank::Rank;
 use kinds::recency::instance_at;
-use lines::marks;
 use lines::marks::RESEND_LIMIT;
 use packets::ids::Name;
 use places::count::SendCount;
+use places::row::put;
 use tables::search::free_in;
 use tables::want::Want;
 
@@ -179,8 +179,8 @@ fn want_at<K: Kind>(
         name: naming.name,
         count: SendCount::fresh(RESEND_LIMIT),
     };
-    marks::put(&mut node.wants, place, Some(want));
-    marks::put(wanted, place, naming.instance);
+    put(&mut node.wants, place, Some(want));
+    put(wanted, place, naming.instance);
 }
 
 // In their order.

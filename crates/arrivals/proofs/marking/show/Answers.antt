@@ -1,6 +1,6 @@
 use Rattle.std.proofs.Common.{rules}
 use Rattle.lines.specs.Lines.{no_line, shown}
-use Rattle.lines.proofs.TableLaws.{changed_at}
+use Rattle.places.proofs.RowLaws.{changed_at}
 use Rattle.arrivals.proofs.marking.show.Goals as goal
 
 pub returns : goal.returns

@@ -1,7 +1,7 @@
 use Rattle.std.proofs.Common.{rules}
 use Rattle.exchange.specs.Showings.{showing}
 use Rattle.lines.specs.Lines.{no_line}
-use Rattle.lines.proofs.TableLaws.{changed_at}
+use Rattle.places.proofs.RowLaws.{changed_at}
 use Rattle.arrivals.proofs.marking.show_same.Goals as goal
 
 pub returns : goal.returns

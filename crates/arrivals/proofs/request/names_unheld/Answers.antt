@@ -1,4 +1,4 @@
-use Rattle.std.proofs.Common.{map, refl, ap, rules, tests, ◌∙◌}
+use Rattle.std.proofs.Common.{refl, ap, rules, tests, ◌∙◌}
 use Rattle.std.proofs.lemmas.Iterator.Consumers.{YieldsList-from_first}
 use Rattle.std.proofs.lemmas.Iterator.Search.{any_from_yields_List}
 use Rattle.packets.specs.Requests.{number_at}
