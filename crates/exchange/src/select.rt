@@ -20,7 +20,7 @@ fn first_places<T: Copy, F: Fn(usize, &T) -> bool>(table: &[Option<T>], passes: 
     requires { F.IsAlwaysCallable passes }
     ensures { (f : ℕ → T → Bool) → ((p : _) (x : _) (b : _) → F.post passes p x b → b ≡ f p x.now) → listed result ≡ first_places f table.now }
 {
-    let mut list = PlaceList::new(0);
+    let mut list = PlaceList::new();
     for (place, held) in table.iter().enumerate() {
         if let Some(item) = held {
             list.keep(place, passes(place, item), MOST);

@@ -9,6 +9,7 @@ pub struct List<T, const N: usize> {
     ghost within: { count ≤ N },
 }
 
+// Stays by hand: no copy is derived over a ghost field.
 impl<T: Copy, const N: usize> Copy for List<T, N> {}
 
 impl<T: Copy, const N: usize> Clone for List<T, N> {
@@ -28,7 +29,7 @@ impl<T: Copy, const N: usize> List<T, N> {
     ghost use Rattle.places.specs.Lists.{listed, pushed};
 
     // Without items; the blank fills the memory that no item has.
-    pub fn new(blank: T) -> List<T, N>
+    pub fn empty(blank: T) -> List<T, N>
         ensures { listed result ≡ [] }
     {
         List {
@@ -41,6 +42,7 @@ impl<T: Copy, const N: usize> List<T, N> {
     pub fn push(&mut self, item: T)
         ensures { listed self.new ≡ pushed N (listed self.old) item }
     {
+        // Stays: of an array's `get_mut` a proof knows no element once the borrow is over.
         if self.count < N {
             self.items[self.count] = item;
             self.count += 1;
@@ -57,6 +59,12 @@ impl<T: Copy, const N: usize> List<T, N> {
 impl List<usize, 64> {
     ghost use Rattle.places.specs.Lists.{listed};
     ghost use Rattle.places.specs.PlaceLists.{kept};
+
+    pub fn new() -> PlaceList
+        ensures { listed result ≡ [] }
+    {
+        List::empty(0)
+    }
 
     // Adds a place that passes, as long as there are fewer than the limit and than 64.
     pub fn keep(&mut self, place: usize, passes: bool, limit: usize)
