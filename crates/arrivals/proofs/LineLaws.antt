@@ -20,8 +20,8 @@ module _ {X : Type 0} (d : X) where
   set_twice f g (x ∷ xs) zero = refl
   set_twice f g (x ∷ xs) (suc i) = ap (λ ys. x ∷ ys) (set_twice f g xs i)
 
--- A line worked by entries in turn: one more, and none left.
-module _ {X A : Type 0} (d : X) (run : List A → X → X) (f : A → X → X) (none : (x : X) → run [] x ≡ x) (more : (a : A) (rest : List A) (x : X) → run (a ∷ rest) x ≡ run rest (f a x)) (i : ℕ) where
+-- A line worked by entries in turn: one more.
+module _ {X A : Type 0} (d : X) (run : List A → X → X) (f : A → X → X) (more : (a : A) (rest : List A) (x : X) → run (a ∷ rest) x ≡ run rest (f a x)) (i : ℕ) where
   abbrev on : List A → List X → List X
   on es xs = set xs i (run es (get_or xs i d))
 
@@ -29,14 +29,11 @@ module _ {X A : Type 0} (d : X) (run : List A → X → X) (f : A → X → X) (
   on_more xs ys a es rest e h =
       ap (on rest) h ∙ set_twice d (f a) (run rest) xs i ∙ sym (ap (λ cs. on cs xs) e ∙ ap (set xs i) (more a rest (get_or xs i d)))
 
-  pub on_all : (xs : List X) (es : List A) → es ≡ [] → xs ≡ on es xs
-  on_all xs es e = sym (ap (λ cs. on cs xs) e ∙ ap (set xs i) (none (get_or xs i d)) ∙ set_self d xs i)
-
 -- a line of a node, left as it was
 pub same_lines : (n : Node) (i : ℕ) → n ≡ with_lines n n.wants (set n.lines i (get_or n.lines i no_line))
 same_lines n i = ap (with_lines n n.wants) (sym (set_self no_line n.lines i))
 
--- names called for in turn: one more, and none left
+-- names called for in turn: one more
 module _ (i : ℕ) where
   abbrev pub calling : List Name → Node → Node
   calling names n = with_lines n n.wants (set n.lines i (called_for n.places names (get_or n.lines i no_line)))
@@ -44,6 +41,3 @@ module _ (i : ℕ) where
   pub call_more : (m n : Node) (name : Name) (names rest : List Name) → names ≡ name ∷ rest → m ≡ with_lines n n.wants (set n.lines i (called_at (place_of n.places name) (get_or n.lines i no_line))) → calling rest m ≡ calling names n
   call_more m n name names rest e h =
       ap (calling rest) h ∙ ap (with_lines n n.wants) (set_twice no_line (called_at (place_of n.places name)) (called_for n.places rest) n.lines i) ∙ sym (ap (λ xs. calling xs n) e)
-
-  pub call_all : (n : Node) (names : List Name) → names ≡ [] → n ≡ calling names n
-  call_all n names e = same_lines n i ∙ sym (ap (λ xs. calling xs n) e)

@@ -1,7 +1,7 @@
 -- How many descriptions a summary has. Assumes nothing.
 use Rattle.std.proofs.Common.{◌≡◌, ℕ, zero, suc, ◌*◌, ◌≤◌, List, [], ◌∷◌, ◌++◌, length, take, drop, Ok, Err, Result, sym, refl, ap, ◌∙◌, inl, inr, arith, length-append, length-drop}
 use lib.ListN.{length-map}
-use Rattle.std.proofs.lemmas.List.{append_assoc, append-nil}
+use Rattle.std.proofs.lemmas.List.{append_assoc}
 use Rattle.std.proofs.lemmas.Bool.{cases_lt}
 use Rattle.packets.specs.declared.group.GroupFault.{GroupFault}
 use Rattle.packets.specs.declared.ids.NodeId.{NodeId}
@@ -59,7 +59,3 @@ module _ {E : Type 0} (at : List ℕ → E) where
 -- one more is read
 pub read_more : {X : Type 0} (done next left rest all : List X) (x : X) → next ≡ done ++ x ∷ [] → left ≡ x ∷ rest → done ++ left ≡ all → next ++ rest ≡ all
 read_more done next left rest all x n e h = ap (λ xs. xs ++ rest) n ∙ append_assoc done (x ∷ []) rest ∙ sym (ap (λ xs. done ++ xs) e) ∙ h
-
--- none is left
-pub read_all : {X : Type 0} (done left all : List X) → left ≡ [] → done ++ left ≡ all → done ≡ all
-read_all done left all e h = sym (append-nil done) ∙ sym (ap (λ xs. done ++ xs) e) ∙ h

@@ -31,11 +31,6 @@ module _ {E : Type 0} (at : List ℕ → E) (size : ℕ) (some : 0 < size) where
       ap (λ bs. under at size (record { bytes = bs }) es) n
       ∙ ap (under at size (record { bytes = take 22 c })) (e ∙ entries_enough at size some (length rest) (length c) rest (omega arith) (omega arith) ∙ ap (entries at size (length c)) d)
 
-module _ {E : Type 0} (at : List ℕ → E) (size : ℕ) where
-  -- an entry of the present group
-  pub ahead_entry : (node : NodeId) (e : E) (es behind : List E) (gs : List (NodeId × E)) → es ≡ e ∷ behind → under at size node es ++ gs ≡ (node, e) ∷ (under at size node behind ++ gs)
-  ahead_entry node e es behind gs q = ap (λ xs. under at size node xs ++ gs) q
-
 -- entries of all groups read in two ways
 pub each_as : {G H X Y : Type 0} (by : G → List X) (read : H → G) (raw : H → List Y) (f : Y → X) → ((c : H) → by (read c) ≡ map f (raw c)) → (cs : List H) → each_of by (map read cs) ≡ map f (each_of raw cs)
 each_as by read raw f same [] = refl

@@ -18,6 +18,7 @@ use tables::verdict::Verdict;
 use tables::wants;
 
 // Comes on a line, and may show there what is held, or call for it.
+// Stays: the node and the two rows go to each call as parameters, by a rule of the project.
 pub fn arrive<K: Kind>(
     node: &mut Node,
     elements: &mut [K],

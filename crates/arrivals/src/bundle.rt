@@ -91,15 +91,7 @@ fn arrive_groups<K: Kind>(
 {
     let mut arrivals = Arrivals::none();
     for content in Groups::new(PacketType::Bundle, bundle.groups) {
-        arrive_group(
-            node,
-            elements,
-            wanted,
-            line,
-            bundle,
-            content,
-            &mut arrivals,
-        );
+        arrive_group(node, elements, wanted, line, bundle, content, &mut arrivals);
     }
     arrivals
 }

@@ -88,6 +88,7 @@ impl<'a, K: Kind> View<'a, K> {
     fn count_needed(&self, namings: &[Naming<K>]) -> usize
         ensures { result ≡ needed K.model self.now.line (viewed self.now) (map naming_view namings.now) }
     {
+        // Stays: each description is held against those behind it, which no chain hands over.
         let mut count = 0;
         let mut left = namings;
         while let Some((naming, later)) = left.split_first() {

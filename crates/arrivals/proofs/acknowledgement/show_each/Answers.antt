@@ -23,6 +23,6 @@ loop-node-preserved g c =
     let xs = c.args.elements.now in
     let ls = c.loop-node.lines in
     let i = c.args.line in
-    on_more no_line (shown_all ops ps xs) (shown_by ops ps xs) (λ l. refl) (λ m ms l. refl) i ls _ _ _ _ (ap (map (acknowledged_at ops)) c.in-Some.ensures.steps)
+    on_more no_line (shown_all ops ps xs) (shown_by ops ps xs) (λ m ms l. refl) i ls _ _ _ _ (ap (map (acknowledged_at ops)) c.in-Some.ensures.steps)
     (c.show_named.ensures ∙ ap (λ m. set ls i (shown_by ops ps xs m (get_or ls i no_line))) c.read-naming.ensures)
     ∙ c.loop-node.invariant

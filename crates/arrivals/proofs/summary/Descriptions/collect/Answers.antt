@@ -31,8 +31,8 @@ loop-node-preserved g c =
     let n : length (listed d) ≡ length (items d.all) = length-map (items d.all) naming_view in
     let l = ap length c.in-Some.ensures.steps in
     let added : map naming_view (items c.push.new.self) ≡ listed d ++ x ∷ [] =
-        ap (map naming_view) (c.push.ensures ∙ cond-true _ _ _ (lt-ltb (length (items d.all)) 127 (omega (arith, inv.0))))
-        ∙ map_push naming_view (items d.all) c.read-naming.result ∙ ap (λ m. listed d ++ m ∷ []) c.read-naming.ensures in
+    ap (map naming_view) (c.push.ensures ∙ cond-true _ _ _ (lt-ltb (length (items d.all)) 127 (omega (arith, inv.0))))
+    ∙ map_push naming_view (items d.all) c.read-naming.result ∙ ap (λ m. listed d ++ m ∷ []) c.read-naming.ensures in
     let m = ap length added in
     let a = length-append (listed d) (x ∷ []) in (
       omega (arith, inv.0),
