@@ -36,7 +36,7 @@ pub fn arrive<K: Kind>(
         instance,
         body,
     };
-    let verdict = judge(node, elements, &element, &instance);
+    let verdict = judge(node, elements, &arrival);
     match verdict {
         Verdict::Same(place) => marking::show(&mut node.lines, line, place),
         Verdict::Newer(place) | Verdict::New(place) => {
@@ -50,12 +50,12 @@ pub fn arrive<K: Kind>(
     verdict
 }
 
-fn judge<K: Kind>(node: &Node, elements: &[K], element: &Element, instance: &K) -> Verdict
-    ensures { result ≡ verdict_of (place_of node.now.places element.now.name) (rank_at K.model elements.now instance.now (place_of node.now.places element.now.name)) (is_expired K.model instance.now) (free_place node.now.places) }
+fn judge<K: Kind>(node: &Node, elements: &[K], arrival: &Arrival<'_, K>) -> Verdict
+    ensures { result ≡ verdict_of (place_of node.now.places arrival.now.element.name) (rank_at K.model elements.now arrival.now.instance (place_of node.now.places arrival.now.element.name)) (is_expired K.model arrival.now.instance) (free_place node.now.places) }
 {
-    let held = node.find(&element.name);
-    let rank = rank_at(elements, instance, held);
-    Verdict::of(held, rank, instance.is_expired(), node.free_place())
+    let held = node.find(&arrival.element.name);
+    let rank = rank_at(elements, &arrival.instance, held);
+    Verdict::of(held, rank, arrival.instance.is_expired(), node.free_place())
 }
 
 // Where none is held nothing hangs on the rank.

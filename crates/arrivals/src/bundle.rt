@@ -34,7 +34,7 @@ impl Arrivals {
         ensures { (listed result.acknowledged ≡ []) × (result.left ≡ 0) }
     {
         Arrivals {
-            acknowledged: List::new(Acknowledged {
+            acknowledged: List::empty(Acknowledged {
                 number: 0,
                 instance: [0; 8],
             }),

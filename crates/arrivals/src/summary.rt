@@ -45,7 +45,7 @@ impl<K: Kind> Descriptions<K> {
             instance: K::first(0, 0),
         };
         Descriptions {
-            all: list::List::new(naming),
+            all: list::List::empty(naming),
         }
     }
 
