@@ -5,7 +5,7 @@ ghost use Rattle.packets.specs.Contents.{decode, raw, viewed_packet};
 ghost use Rattle.packets.specs.Encodings.{description_bytes, encode, framed};
 ghost use Rattle.packets.specs.Groups.{content_fault};
 ghost use Rattle.packets.specs.Layouts.{group_fixed_of};
-ghost use Rattle.writer.specs.Writers.{begun, begun_bytes, pasted};
+ghost use Rattle.writer.specs.Writers.{HasRoom, begun, begun_bytes, pasted};
 ghost use Rattle.codec.specs.declared.back.NotWritten.TheVariants as NotWritten;
 ghost use Rattle.codec.specs.Backs.{Back, Reason, back_answer, back_bytes, cleared_entries, first_part, group_again, groups_again, part_type, second_part, view_of};
 ghost use Rattle.codec.specs.Faithful.{Faithful};
@@ -120,7 +120,7 @@ fn begin(packet: &Packet<'_>, buffer: &mut [u8]) -> Result<Open, HeaderFault>
 // The groups up to one that breaks its layout.
 // Stays: draft and buffer are two parameters, since the writer's steps are lent the buffer one by one.
 fn write_groups(draft: Open, buffer: &mut [u8], of: PacketType, groups: &[u8]) -> Open
-    requires { draft.len + length (groups_again (length groups.now) of groups.now) ≤ min (length buffer.old) 2048 }
+    requires { HasRoom draft.len (length (groups_again (length groups.now) of groups.now)) buffer.old }
     ensures state { result ≡ record { len = draft.len + length (groups_again (length groups.now) of groups.now) } }
     ensures bytes { buffer.new ≡ pasted draft.len (groups_again (length groups.now) of groups.now) buffer.old }
 {
@@ -134,7 +134,7 @@ fn write_groups(draft: Open, buffer: &mut [u8], of: PacketType, groups: &[u8]) -
 fn write_group(draft: Open, buffer: &mut [u8], of: PacketType, content: &[u8]) -> Open
     requires sound { content_fault of content.now ≡ None }
     requires least { group_fixed_of of ≤ 4 + length content.now }
-    requires room { draft.len + length (group_again of content.now) ≤ min (length buffer.old) 2048 }
+    requires room { HasRoom draft.len (length (group_again of content.now)) buffer.old }
     ensures state { result ≡ record { len = draft.len + length (group_again of content.now) } }
     ensures bytes { buffer.new ≡ pasted draft.len (group_again of content.now) buffer.old }
 {
@@ -173,7 +173,7 @@ fn write_pieces(
     third: &[u8],
     entries: &[u8],
 ) -> Open
-    requires room { draft.len + (4 + (length first.now + (length second.now + (length third.now + length entries.now)))) ≤ min (length buffer.old) 2048 }
+    requires room { HasRoom draft.len (4 + (length first.now + (length second.now + (length third.now + length entries.now)))) buffer.old }
     ensures state { result ≡ record { len = draft.len + length (framed of ((first.now ++ (second.now ++ third.now)) ++ cleared_entries (length entries.now) entries.now)) } }
     ensures bytes { buffer.new ≡ pasted draft.len (framed of ((first.now ++ (second.now ++ third.now)) ++ cleared_entries (length entries.now) entries.now)) buffer.old }
 {
@@ -184,7 +184,7 @@ fn write_pieces(
 }
 
 fn write_descriptions(group: GroupOpen, buffer: &mut [u8], entries: &[u8]) -> GroupOpen
-    requires room { group.len + length entries.now ≤ min (length buffer.old) 2048 }
+    requires room { HasRoom group.len (length entries.now) buffer.old }
     ensures state { result ≡ record { start = group.start; len = group.len + length (cleared_entries (length entries.now) entries.now) } }
     ensures bytes { buffer.new ≡ pasted group.len (cleared_entries (length entries.now) entries.now) buffer.old }
 {
@@ -196,7 +196,7 @@ fn write_descriptions(group: GroupOpen, buffer: &mut [u8], entries: &[u8]) -> Gr
 }
 
 fn write_description(group: GroupOpen, buffer: &mut [u8], description: Description) -> GroupOpen
-    requires { group.len + 16 ≤ min (length buffer.old) 2048 }
+    requires { HasRoom group.len 16 buffer.old }
     ensures state { result ≡ record { start = group.start; len = group.len + 16 } }
     ensures bytes { buffer.new ≡ pasted group.len (description_bytes description) buffer.old }
 {

@@ -11,11 +11,11 @@ use Rattle.packets.specs.Layouts.{group_number_of, number_of}
 use Rattle.writer.specs.declared.states.GroupOpen.{GroupOpen}
 use Rattle.writer.specs.declared.states.Finished.{Finished}
 use Rattle.writer.specs.declared.states.Open.{Open}
-use Rattle.writer.specs.Writers.{pasted, put16_at, begin_bytes, group_bytes, closed, closed_bytes, finished, finished_bytes}
+use Rattle.writer.specs.Writers.{Appended, begin_bytes, closed, closed_bytes, finished, finished_bytes, group_bytes, pasted, put16_at}
 use Rattle.writer.proofs.WriterLaws.{pasted_twice, put_behind}
 use Rattle.exchange.specs.Selections.{group_at, groups_at}
 use Rattle.compose.specs.Composed.{composed, composed_length, needed}
-use Rattle.compose.specs.Framed.{Appended, groups_bytes, one_bytes}
+use Rattle.compose.specs.Framed.{groups_bytes, one_bytes}
 
 -- an element that may be missing and may hold nothing
 pub flatten_is : {X : Type 0} (x : Option (Option X)) → option_flatten x ≡ unwrap_or x None

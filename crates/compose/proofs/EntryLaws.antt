@@ -4,7 +4,7 @@ use Rattle.std.proofs.lemmas.List.{at_drop_more}
 use Rattle.packets.specs.declared.acknowledgement.Acknowledged.{Acknowledged}
 use Rattle.packets.specs.Encodings.{entry_bytes, joined}
 use Rattle.writer.specs.declared.states.GroupOpen.{GroupOpen}
-use Rattle.compose.specs.Framed.{Appended}
+use Rattle.writer.specs.Writers.{Appended}
 use Rattle.compose.proofs.ComposeLaws.{Leads, leads_more}
 
 abbrev entries_bytes : List Acknowledged → List ℕ

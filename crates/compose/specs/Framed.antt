@@ -13,15 +13,6 @@ use Rattle.exchange.specs.Bundling.{element_out}
 use Rattle.exchange.specs.Handing.{requested}
 use Rattle.exchange.specs.Summaries.{description_of}
 
--- more bytes fit behind a packet of some length, within the buffer and the longest packet
-abbrev pub HasRoom : ℕ → ℕ → List ℕ → Type 0
-HasRoom len more buffer = len + more ≤ min (length buffer) 2048
-
--- some bytes stand behind a packet of some length, which now ends behind them
-pub record Appended (len : ℕ) (bytes before : List ℕ) (end : ℕ) (after : List ℕ) : Type 0 where
-  pub state : end ≡ len + length bytes
-  pub stands : after ≡ pasted len bytes before
-
 -- the bytes for one place, none where it is free
 abbrev pub one_bytes : {X : Type 0} → (ℕ → X → List ℕ) → ℕ → Option X → List ℕ
 one_bytes f p None = []

@@ -1,9 +1,9 @@
 // An acknowledgement: one group, since all elements of a bundle have its node ID.
 ghost use Rattle.std.specs.Prelude.{◌≡◌, ◌+◌, ◌*◌, ◌≤◌, map, length};
 ghost use Rattle.packets.specs.Encodings.{encode, entry_bytes, joined};
-ghost use Rattle.writer.specs.Writers.{pasted};
+ghost use Rattle.writer.specs.Writers.{Appended, HasRoom, pasted};
 ghost use Rattle.compose.specs.Composed.{acknowledgement_content, composed, composed_length, few_entries};
-ghost use Rattle.compose.specs.Framed.{Appended, HasRoom, acknowledgement_group};
+ghost use Rattle.compose.specs.Framed.{acknowledgement_group};
 
 use crate::frame::{add_entry, begin, open_group};
 use packets::acknowledgement::Acknowledged;

@@ -2,18 +2,15 @@
 // are not declined, since there is room for them.
 ghost use Rattle.std.specs.Prelude.{◌≡◌, ℕ, ◌+◌, ◌≤◌, List, ◌++◌, length};
 ghost use Rattle.packets.specs.Encodings.{framed, headed};
-ghost use Rattle.writer.specs.Writers.{begin_bytes, group_bytes, pasted};
+ghost use Rattle.writer.specs.Writers.{Appended, HasRoom, begin_bytes, group_bytes, pasted};
 ghost use Rattle.compose.specs.Composed.{needed};
-ghost use Rattle.compose.specs.Framed.{Appended, HasRoom, groups_bytes};
+ghost use Rattle.compose.specs.Framed.{groups_bytes};
 
 use packets::layout::PacketType;
 use writer::states::{GroupOpen, Open};
 
 // Newest and oldest version of what we write.
 const VERSION: u8 = 1;
-
-// A summary or a request names no more places.
-pub(crate) const MOST: usize = 32;
 
 // How the record at a place is written: as one group, which takes at most so many bytes.
 pub(crate) trait WriteGroup {

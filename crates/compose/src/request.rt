@@ -3,7 +3,8 @@ ghost use Rattle.std.specs.Prelude.{◌≡◌};
 ghost use Rattle.compose.specs.Composed.{composed, composed_length, few, request_content};
 ghost use Rattle.compose.specs.Framed.{request_group};
 
-use crate::frame::{MOST, WriteGroup, write_packet, write_pieces};
+use crate::frame::{WriteGroup, write_packet, write_pieces};
+use exchange::select::MOST;
 use packets::layout::PacketType;
 use tables::want::Want;
 use writer::states::{LONGEST, Open};

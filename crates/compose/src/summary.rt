@@ -2,11 +2,12 @@
 ghost use Rattle.std.specs.Prelude.{◌≡◌, ◌+◌, ◌≤◌, ◌∷◌, ◌++◌, length};
 ghost use Rattle.packets.specs.declared.layout.PacketType.TheVariants.{Summary};
 ghost use Rattle.packets.specs.Encodings.{framed};
-ghost use Rattle.writer.specs.Writers.{pasted};
+ghost use Rattle.writer.specs.Writers.{Appended, HasRoom, pasted};
 ghost use Rattle.compose.specs.Composed.{composed, composed_length, few, summary_content};
-ghost use Rattle.compose.specs.Framed.{Appended, HasRoom, described_group, description_group};
+ghost use Rattle.compose.specs.Framed.{described_group, description_group};
 
-use crate::frame::{MOST, WriteGroup, add_entry, open_group, write_packet};
+use crate::frame::{WriteGroup, add_entry, open_group, write_packet};
+use exchange::select::MOST;
 use kinds::kind::Kind;
 use kinds::recency::instance_at;
 use packets::layout::PacketType;

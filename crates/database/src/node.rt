@@ -15,6 +15,7 @@ use tables::want::Want;
 pub struct Node {
     pub id: NodeId,
     pub group: PeerGroupId,
+    // Stays an array of its own, as the instances of the same places lie in a row that is lent; so do the wants.
     pub places: [Option<Element>; 64],
     pub bodies: BodyStore,
     pub wants: [Option<Want>; 64],

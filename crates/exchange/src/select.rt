@@ -13,7 +13,7 @@ use tables::element::Element;
 use tables::want::Want;
 
 // A summary or a request names no more.
-const MOST: usize = 32;
+pub const MOST: usize = 32;
 
 // The first 32 held places that pass.
 fn first_places<T: Copy, F: Fn(usize, &T) -> bool>(table: &[Option<T>], passes: F) -> PlaceList

@@ -39,7 +39,7 @@ pub struct Line {
     pub summary: OwnSummary,
     // The retransmission list: an entry or a call of the neighbour adds, its showing removes.
     pub owed: PlaceSet,
-    // When each owed element was sent.
+    // When each owed element was sent. Stays beside `owed`: clearing a line empties that set at once, and leaves the counts.
     pub counts: [SendCount; 64],
     // The summary list: the end of negotiation adds, our next summary and an entry remove.
     pub to_tell: PlaceSet,

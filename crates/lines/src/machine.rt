@@ -28,6 +28,7 @@ pub enum Reaction {
 }
 
 impl Line {
+    // Stays: our own ID is no part of the summary, so it comes beside the head and whether there are groups.
     pub fn event(&self, own: &NodeId, head: SummaryHead, has_groups: bool) -> SummaryEvent
         ensures { result ≡ event_of own.now self.now head.flags head.ds_number has_groups }
     {

@@ -21,13 +21,14 @@ pub struct Name {
 }
 
 impl NodeId {
+    // Stays beside the derived `==`: a derive has no clause.
     pub fn same(&self, other: &NodeId) -> bool
         ensures { result ≡ same_node self.now other.now }
     {
         self == other
     }
 
-    // As unsigned numbers.
+    // As unsigned numbers. Stays beside the derived `>`: a derive has no clause.
     #[tactic(auto, using(crate::proofs::IdLaws::is_larger))]
     pub fn is_larger(&self, other: &NodeId) -> bool
         ensures { result ≡ larger_node self.now other.now }
@@ -37,6 +38,7 @@ impl NodeId {
 }
 
 impl Name {
+    // Stays beside the derived `==`: a derive has no clause.
     pub fn same(&self, other: &Name) -> bool
         ensures { result ≡ same_name self.now other.now }
     {

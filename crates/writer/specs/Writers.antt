@@ -1,5 +1,5 @@
 -- A packet that is being written. Assumes nothing.
-use Rattle.std.specs.Prelude.{ℕ, ◌+◌, ◌-◌, ◌/◌, ◌%◌, min, Bool, cond, List, [], ◌∷◌, ◌++◌, length, take, drop, Ok, Err, Result, nat_le, slice_set}
+use Rattle.std.specs.Prelude.{◌≡◌, ℕ, ◌+◌, ◌-◌, ◌/◌, ◌%◌, ◌≤◌, min, Bool, cond, List, [], ◌∷◌, ◌++◌, length, take, drop, Ok, Err, Result, nat_le, slice_set}
 use Rattle.kinds.specs.BigEndian.{write16}
 use Rattle.packets.specs.declared.header.HeaderFault.{HeaderFault}
 use Rattle.packets.specs.declared.header.HeaderFault.TheVariants.{Long}
@@ -71,3 +71,12 @@ finished o = record { len = o.len }
 -- the packet's length stands behind its type
 abbrev pub finished_bytes : Open → List ℕ → List ℕ
 finished_bytes o buffer = put16_at 2 o.len buffer
+
+-- more bytes fit behind a packet of some length, within the buffer and the longest packet
+abbrev pub HasRoom : ℕ → ℕ → List ℕ → Type 0
+HasRoom len more buffer = len + more ≤ min (length buffer) 2048
+
+-- some bytes stand behind a packet of some length, which now ends behind them
+pub record Appended (len : ℕ) (bytes before : List ℕ) (end : ℕ) (after : List ℕ) : Type 0 where
+  pub state : end ≡ len + length bytes
+  pub stands : after ≡ pasted len bytes before
