@@ -1,5 +1,5 @@
 -- The bytes of our own packets' groups. Assumes nothing.
-use Rattle.std.specs.Prelude.{◌≡◌, ℕ, ◌+◌, ◌≤◌, min, List, [], ◌∷◌, ◌++◌, length, Some, None, Option, slice_index_or}
+use Rattle.std.specs.Prelude.{ℕ, List, [], ◌∷◌, ◌++◌, Some, None, Option, slice_index_or}
 use Rattle.kinds.specs.Kinds.{Operations}
 use Rattle.packets.specs.declared.acknowledgement.Acknowledged.{Acknowledged}
 use Rattle.packets.specs.declared.ids.NodeId.{NodeId}
@@ -8,7 +8,6 @@ use Rattle.packets.specs.Encodings.{acknowledged_bytes, described_bytes, element
 use Rattle.places.specs.declared.store.BodyStore.{BodyStore}
 use Rattle.tables.specs.declared.element.Element.{Element}
 use Rattle.tables.specs.declared.want.Want.{Want}
-use Rattle.writer.specs.Writers.{pasted}
 use Rattle.exchange.specs.Bundling.{element_out}
 use Rattle.exchange.specs.Handing.{requested}
 use Rattle.exchange.specs.Summaries.{description_of}

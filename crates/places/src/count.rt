@@ -8,7 +8,7 @@ pub struct SendCount {
 }
 
 impl SendCount {
-    // Of a new thing, which is due at once.
+    // Of a new thing, which is due at once. Stays: a rule of the project has the limit as an argument.
     pub fn fresh(limit: u8) -> SendCount
         ensures { result ≡ fresh_count limit }
     {
