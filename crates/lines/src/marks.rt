@@ -8,7 +8,8 @@ ghost use Rattle.lines.specs.Tables.{some_where};
 use crate::line::{Line, OwnSummary, State};
 use packets::ids::NodeId;
 use places::count::SendCount;
-pub use places::row::{change_at, put};
+use places::row::change_at;
+pub use places::row::put;
 use places::set::PlaceSet;
 
 // Seconds after which a thing that was sent is due again.

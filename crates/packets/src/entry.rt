@@ -10,7 +10,7 @@ use std::marker::PhantomData;
 pub trait Entry: Copy {
     ghost size: { ℕ };
 
-    // What the bytes say; those behind the first `size` do not count.
+    // What the first bytes say.
     ghost at: { List ℕ → Self };
 
     // The first entry, and the entries behind it.

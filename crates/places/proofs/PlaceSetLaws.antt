@@ -62,12 +62,14 @@ unfolding without_place
 without_is s p = refl
 
 -- a set whose marks were written
-pub inserted : (s : PlaceSet) (p : ℕ) (ms : List Bool) → length s.marks ≡ 64 → ms ≡ set s.marks p true → (of_marks ms ≡ with_place s p) × Changed s p true (of_marks ms)
-inserted s p ms l e =
-    let q : of_marks ms ≡ with_place s p = ap of_marks (e ∙ marked_is_set s.marks p true) ∙ sym (with_is s p) in
-    (q, subst (Changed s p true) (sym q) (with_changes s p l))
+pub inserted : (s : PlaceSet) (p : ℕ) (ms : List Bool) → ms ≡ set s.marks p true → of_marks ms ≡ with_place s p
+inserted s p ms e = ap of_marks (e ∙ marked_is_set s.marks p true) ∙ sym (with_is s p)
 
-pub removed : (s : PlaceSet) (p : ℕ) (ms : List Bool) → length s.marks ≡ 64 → ms ≡ set s.marks p false → (of_marks ms ≡ without_place s p) × Changed s p false (of_marks ms)
-removed s p ms l e =
-    let q : of_marks ms ≡ without_place s p = ap of_marks (e ∙ marked_is_set s.marks p false) ∙ sym (without_is s p) in
-    (q, subst (Changed s p false) (sym q) (without_changes s p l))
+pub inserted_only : (s : PlaceSet) (p : ℕ) (ms : List Bool) → length s.marks ≡ 64 → ms ≡ set s.marks p true → Changed s p true (of_marks ms)
+inserted_only s p ms l e = subst (Changed s p true) (sym (inserted s p ms e)) (with_changes s p l)
+
+pub removed : (s : PlaceSet) (p : ℕ) (ms : List Bool) → ms ≡ set s.marks p false → of_marks ms ≡ without_place s p
+removed s p ms e = ap of_marks (e ∙ marked_is_set s.marks p false) ∙ sym (without_is s p)
+
+pub removed_only : (s : PlaceSet) (p : ℕ) (ms : List Bool) → length s.marks ≡ 64 → ms ≡ set s.marks p false → Changed s p false (of_marks ms)
+removed_only s p ms l e = subst (Changed s p false) (sym (removed s p ms e)) (without_changes s p l)

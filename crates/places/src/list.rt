@@ -39,6 +39,7 @@ impl<T: Copy, const N: usize> List<T, N> {
     }
 
     // The item comes last; a full list stays as it is.
+    #[tactic(auto, using(crate::proofs::ListLaws::pushed_here, crate::proofs::ListLaws::pushed_none))]
     pub fn push(&mut self, item: T)
         ensures { listed self.new ≡ pushed N (listed self.old) item }
     {

@@ -23,6 +23,7 @@ impl PlaceSet {
         read_mark(&self.marks, place)
     }
 
+    #[tactic(auto, using(crate::proofs::PlaceSetLaws::inserted, crate::proofs::PlaceSetLaws::inserted_only))]
     pub fn insert(&mut self, place: usize)
         ensures after { self.new ≡ with_place self.old place }
         ensures meaning { Changed self.old place true self.new }
@@ -30,6 +31,7 @@ impl PlaceSet {
         put(&mut self.marks, place, true);
     }
 
+    #[tactic(auto, using(crate::proofs::PlaceSetLaws::removed, crate::proofs::PlaceSetLaws::removed_only))]
     pub fn remove(&mut self, place: usize)
         ensures after { self.new ≡ without_place self.old place }
         ensures meaning { Changed self.old place false self.new }
