@@ -1,10 +1,11 @@
 // Recency: how an instance ranks against another of the same element.
 ghost use Rattle.std.specs.Prelude.{◌≡◌};
 ghost use Rattle.kinds.specs.Ranks.{rank_of};
+ghost use Rattle.kinds.specs.Recency.{is_higher};
 
 use std::cmp::Ordering;
 
-// Stays: an `Ordering` can be compared by `==`, and what ranks the same need not be equal, so a rank has no equality.
+// Stays: a rank is no `Ordering`, which has equality (docs/DECISIONS.md, No equality on instances).
 #[derive(Clone, Copy)]
 pub enum Rank {
     Lower,
@@ -21,5 +22,13 @@ impl From<Ordering> for Rank {
             Ordering::Equal => Rank::Same,
             Ordering::Greater => Rank::Higher,
         }
+    }
+}
+
+impl Rank {
+    pub fn is_higher(self) -> bool
+        ensures { result ≡ is_higher self }
+    {
+        matches!(self, Rank::Higher)
     }
 }

@@ -1,5 +1,6 @@
 // The bundle: elements of one node ID and peer group ID.
-ghost use Rattle.std.specs.Prelude.{◌≡◌};
+ghost use Rattle.std.specs.Prelude.{◌≡◌, [], ◌∷◌};
+ghost use Rattle.kinds.specs.BigEndian.{write16, write32};
 ghost use Rattle.packets.specs.Bundles.{bundle_of, element_of, viewed_bundle, viewed_element};
 
 use crate::ids::{NodeId, PeerGroupId};
@@ -48,4 +49,13 @@ impl<'a> Element<'a> {
             body,
         })
     }
+}
+
+// What an element and a description begin with: type, two reserved bytes, number.
+pub fn element_head(element_type: u16, number: u32) -> [u8; 8]
+    ensures { result ≡ write16 element_type (0 ∷ 0 ∷ write32 number []) }
+{
+    let [k0, k1] = element_type.to_be_bytes();
+    let [n0, n1, n2, n3] = number.to_be_bytes();
+    [k0, k1, 0, 0, n0, n1, n2, n3]
 }

@@ -1,6 +1,7 @@
 // The summary: flags, DS number, and descriptions of what is held.
-ghost use Rattle.std.specs.Prelude.{◌≡◌};
+ghost use Rattle.std.specs.Prelude.{◌≡◌, ◌==◌, not, bit_and, [], ◌∷◌};
 ghost use Rattle.std.proofs.Common.{arith};
+ghost use Rattle.kinds.specs.BigEndian.{write16, write32};
 ghost use Rattle.packets.specs.Summaries.{described_of, description_at, summary_of, viewed_described, viewed_summary};
 
 use crate::entry::Entry;
@@ -38,6 +39,24 @@ pub struct Description {
     pub element_type: u16,
     pub number: u32,
     pub instance: [u8; 8],
+}
+
+impl SummaryHead {
+    // Whether it has a flag.
+    pub fn has(self, flag: u16) -> bool
+        ensures { result ≡ not (bit_and self.flags flag == 0) }
+    {
+        self.flags & flag != 0
+    }
+
+    // Flags, two reserved bytes, DS number.
+    pub fn bytes(self) -> [u8; 8]
+        ensures { result ≡ write16 self.flags (0 ∷ 0 ∷ write32 self.ds_number []) }
+    {
+        let [f0, f1] = self.flags.to_be_bytes();
+        let [d0, d1, d2, d3] = self.ds_number.to_be_bytes();
+        [f0, f1, 0, 0, d0, d1, d2, d3]
+    }
 }
 
 impl<'a> Summary<'a> {
