@@ -3,7 +3,6 @@ ghost use Rattle.std.specs.Prelude.{◌≡◌, replicate};
 ghost use Rattle.database.specs.Nodes.{OnePlace, idle_line, started};
 
 use lines::line::{Line, OwnSummary, Role, State};
-use lines::marks::RESEND_LIMIT;
 use packets::ids::{NodeId, PeerGroupId};
 use places::count::SendCount;
 use places::set::PlaceSet;
@@ -15,7 +14,7 @@ use tables::want::Want;
 pub struct Node {
     pub id: NodeId,
     pub group: PeerGroupId,
-    // Stays an array of its own, as the instances of the same places lie in a row that is lent; so do the wants.
+    // Stays beside `bodies` and the wants: their instances lie in rows that are lent, and a body's bytes stay when its place is free.
     pub places: [Option<Element>; 64],
     pub bodies: BodyStore,
     pub wants: [Option<Want>; 64],
@@ -48,11 +47,7 @@ fn idle_lines() -> [Line; 8]
         ds_number: 0,
         role: Role::Master,
         accepted: None,
-        summary: OwnSummary {
-            written: false,
-            more: true,
-            count: SendCount::fresh(RESEND_LIMIT),
-        },
+        summary: OwnSummary::initial(),
         owed: PlaceSet::empty(),
         counts: [SendCount::sent(); 64],
         to_tell: PlaceSet::empty(),

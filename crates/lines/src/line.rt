@@ -20,7 +20,7 @@ pub enum Role {
 }
 
 // Our own summary under the line's DS number.
-// Stays: `more` is no part of being written; the initial summary, which is due and not written, has More.
+// Stays: our summary carries More whether it was written or not, so an Option would have each reader say what none stands for.
 #[derive(Clone, Copy)]
 pub struct OwnSummary {
     pub written: bool,
@@ -39,7 +39,7 @@ pub struct Line {
     pub summary: OwnSummary,
     // The retransmission list: an entry or a call of the neighbour adds, its showing removes.
     pub owed: PlaceSet,
-    // When each owed element was sent. Stays beside `owed`: clearing a line empties that set at once, and leaves the counts.
+    // When each owed element was sent. Stays apart from `owed`: the definition `cleared_line` keeps the counts and none of the marks.
     pub counts: [SendCount; 64],
     // The summary list: the end of negotiation adds, our next summary and an entry remove.
     pub to_tell: PlaceSet,

@@ -37,7 +37,7 @@ impl State {
 
 impl OwnSummary {
     // Due at once, and with More.
-    pub(crate) fn initial() -> OwnSummary
+    pub fn initial() -> OwnSummary
         ensures { result ≡ initial_summary }
     {
         OwnSummary {
