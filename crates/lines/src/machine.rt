@@ -42,7 +42,7 @@ impl Line {
     fn negotiation_event(&self, own: &NodeId, head: SummaryHead, has_groups: bool) -> SummaryEvent
         ensures { result ≡ while_negotiating own.now self.now head.flags head.ds_number has_groups }
     {
-        if self.makes_slave(own, head.flags, has_groups) {
+        if self.makes_slave(own, head, has_groups) {
             SummaryEvent::MakesSlave
         } else if self.makes_master(own, head) {
             SummaryEvent::MakesMaster
@@ -52,12 +52,12 @@ impl Line {
     }
 
     // All three flags and no groups, from a larger node.
-    fn makes_slave(&self, own: &NodeId, flags: u16, has_groups: bool) -> bool
-        ensures { result ≡ to_slave own.now self.now flags has_groups }
+    fn makes_slave(&self, own: &NodeId, head: SummaryHead, has_groups: bool) -> bool
+        ensures { result ≡ to_slave own.now self.now head.flags has_groups }
     {
-        flags & INITIALIZE != 0
-            && flags & MORE != 0
-            && flags & MASTER != 0
+        head.has(INITIALIZE)
+            && head.has(MORE)
+            && head.has(MASTER)
             && !has_groups
             && self.neighbour.is_larger(own)
     }
@@ -66,8 +66,8 @@ impl Line {
     fn makes_master(&self, own: &NodeId, head: SummaryHead) -> bool
         ensures { result ≡ to_master own.now self.now head.flags head.ds_number }
     {
-        head.flags & INITIALIZE == 0
-            && head.flags & MASTER == 0
+        !head.has(INITIALIZE)
+            && !head.has(MASTER)
             && head.ds_number == self.ds_number
             && own.is_larger(&self.neighbour)
     }
@@ -78,8 +78,8 @@ impl Line {
         if self.repeats(head) {
             return SummaryEvent::Duplicate(self.role);
         }
-        let right = self.role.is_right_master(head.flags);
-        if right && head.flags & INITIALIZE == 0 && head.ds_number == self.awaited() {
+        let right = self.role.is_right_master(head);
+        if right && !head.has(INITIALIZE) && head.ds_number == self.awaited() {
             SummaryEvent::InSequence
         } else {
             SummaryEvent::Wrong
@@ -162,12 +162,12 @@ impl Line {
 
 impl Role {
     // Only the master sets Master.
-    fn is_right_master(&self, flags: u16) -> bool
-        ensures { result ≡ right_master self.now flags }
+    fn is_right_master(&self, head: SummaryHead) -> bool
+        ensures { result ≡ right_master self.now head.flags }
     {
         match self {
-            Role::Master => flags & MASTER == 0,
-            Role::Slave => flags & MASTER != 0,
+            Role::Master => !head.has(MASTER),
+            Role::Slave => head.has(MASTER),
         }
     }
 }

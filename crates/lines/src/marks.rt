@@ -123,7 +123,7 @@ fn raise_one(count: &mut SendCount)
     count.raise(RESEND_LIMIT);
 }
 
-// Stays: three walks of one statement each, here and below; calls of one function that takes the statement are no shorter.
+// Stays: walks of one statement each, here, below and over the wants of `tables`; calls of one function that takes the statement are no shorter.
 fn raise_all(counts: &mut [SendCount])
     ensures { counts.new ≡ map (λ c. raised c resend_limit) counts.old }
 {

@@ -40,12 +40,12 @@ impl Line {
             Role::Slave => {
                 self.ds_number = head.ds_number;
                 self.tell(chosen);
-                if self.is_done(head.flags) {
+                if self.is_done(head) {
                     self.state = State::Loading;
                 }
             }
             Role::Master => {
-                if self.is_done(head.flags) {
+                if self.is_done(head) {
                     self.state = State::Loading;
                 } else {
                     self.make_next_due();
@@ -62,10 +62,10 @@ impl Line {
     }
 
     // Neither summary of the present number has More; one of ours that is not written counts as having it.
-    fn is_done(&self, flags: u16) -> bool
-        ensures { result ≡ is_done flags self.now.summary }
+    fn is_done(&self, head: SummaryHead) -> bool
+        ensures { result ≡ is_done head.flags self.now.summary }
     {
-        flags & MORE == 0 && self.summary.written && !self.summary.more
+        !head.has(MORE) && self.summary.written && !self.summary.more
     }
 
     fn make_next_due(&mut self)

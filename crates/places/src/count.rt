@@ -8,7 +8,8 @@ pub struct SendCount {
 }
 
 impl SendCount {
-    // Of a new thing, which is due at once. Stays: a rule of the project has the limit as an argument.
+    // Of a new thing, which is due at once.
+    // Stays: a rule of the project (docs/DECISIONS.md, The limit of a send count is an argument).
     pub fn fresh(limit: u8) -> SendCount
         ensures { result ≡ fresh_count limit }
     {
@@ -26,11 +27,7 @@ impl SendCount {
     pub fn raise(&mut self, limit: u8)
         ensures { self.new ≡ raised self.old limit }
     {
-        if self.seconds < limit {
-            self.seconds += 1;
-        } else {
-            self.seconds = limit;
-        }
+        self.seconds = self.seconds.saturating_add(1).min(limit);
     }
 
     pub fn is_due(&self, limit: u8) -> bool

@@ -9,7 +9,7 @@ pub struct List<T, const N: usize> {
     ghost within: { count ≤ N },
 }
 
-// Stays by hand: no copy is derived over a ghost field.
+// Stays by hand: the check derives no `Clone` for a struct with a ghost field.
 impl<T: Copy, const N: usize> Copy for List<T, N> {}
 
 impl<T: Copy, const N: usize> Clone for List<T, N> {
@@ -68,6 +68,7 @@ impl List<usize, 64> {
     }
 
     // Adds a place that passes, as long as there are fewer than the limit and than 64.
+    // Stays with the test's answer as an argument: its clause has it, and the one walk of exchange adds by one call.
     pub fn keep(&mut self, place: usize, passes: bool, limit: usize)
         ensures { listed self.new ≡ kept (listed self.old) place passes limit }
     {

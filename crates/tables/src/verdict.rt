@@ -17,7 +17,7 @@ pub enum Verdict {
 
 impl Verdict {
     // The first row that fits. How the arrival ranks against what is held counts only where its name is held.
-    // Stays one match over a rank beside the place held, as a rule of the project has it.
+    // Stays one match over a rank beside the place held: a rule of the project (docs/DECISIONS.md, Language forms fixed from the start).
     pub fn of(held: Option<usize>, rank: Rank, expired: bool, free: Option<usize>) -> Verdict
         ensures { result ≡ verdict_of held rank expired free }
     {

@@ -14,7 +14,7 @@ use packets::ids::Name;
 fn is_at_or_below(rank: Rank) -> bool
     ensures { result ≡ at_or_below rank }
 {
-    matches!(rank, Rank::Lower | Rank::Same)
+    !rank.is_higher()
 }
 
 // Stays: name and instance come one by one, as callers have them in records of different kinds.
@@ -86,7 +86,7 @@ fn is_of(want: &Option<Want>, line: usize) -> bool
 }
 
 // The first want of a line.
-// Stays an indexed loop, as a rule of the project has the search that decides whether a loading line is full.
+// Stays an indexed loop: a rule of the project (docs/DECISIONS.md, Language forms fixed from the start).
 pub fn find_want(wants: &[Option<Want>], line: usize) -> Option<usize>
     ensures place { result ≡ want_of wants.now line }
     ensures first { First (is_of line) wants.now result }
