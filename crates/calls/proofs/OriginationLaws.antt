@@ -1,12 +1,13 @@
 -- What an origination keeps. Assumes nothing.
-use Rattle.std.proofs.Common.{◌≡◌, ℕ, ◌<◌, true, List, length, get_or, set, Some, None, Ok, Err, Option, Result, refl, ap, ◌∙◌, inl, inr}
+use Rattle.std.proofs.Common.{◌≡◌, ℕ, ◌<◌, true, List, length, get_or, set, Some, None, Ok, Err, Option, Result, sym, refl, ap, ◌∙◌, subst, inl, inr}
 use Rattle.std.proofs.lemmas.List.{get_or-set_other}
 use Rattle.std.proofs.lemmas.Bool.{cases_eq}
 use Rattle.kinds.specs.Kinds.{Operations}
 use Rattle.kinds.specs.Recency.{instance_at}
 use Rattle.packets.specs.declared.ids.Name.{Name}
 use Rattle.tables.specs.declared.element.Element.{Element}
-use Rattle.database.specs.Entries.{entered}
+use Rattle.database.specs.declared.node.Node.{Node}
+use Rattle.database.specs.Entries.{entered, entered_node, settled}
 use Rattle.database.specs.Nodes.{World, world}
 use Rattle.tables.specs.Searches.{free_place, is_named, place_of}
 use Rattle.calls.specs.declared.originate.Origination.{Origination}
@@ -80,3 +81,10 @@ module _ {I : Type 0} (ops : Operations I) (w : World I) (s : Origination) where
   -- where nothing is originated, they are kept
   pub unoriginated : Kept w
   unoriginated = (λ one. one, λ q. inl refl)
+
+  -- an instance that enters and a node that settles keep them
+  pub entry_keeps_them : (t : Succession I) (between left : Node) (xs : List I) → outcome ≡ Ok t → between ≡ entered_node ops w.wants t.place (own_element w.node s) t.new s.body.now w.node → xs ≡ set w.elements t.place t.new → left ≡ settled between → Kept (world left xs w.wants)
+  entry_keeps_them t between left xs o b x l =
+      let row : world left xs w.wants ≡ world left (set w.elements t.place t.new) w.wants = ap (λ ys. world left ys w.wants) x in
+      let all : world left xs w.wants ≡ originated ops w s (Ok t) = row ∙ ap (λ n. world n (set w.elements t.place t.new) w.wants) (l ∙ ap settled b) in
+      subst Kept (sym (all ∙ ap (originated ops w s) (sym o))) originated_keeps

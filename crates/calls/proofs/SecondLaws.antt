@@ -1,13 +1,15 @@
 -- What a second keeps. Assumes nothing.
-use Rattle.std.proofs.Common.{◌≡◌, ℕ, true, false, ◌⊎◌, get_or, Some, None, sym, refl, ap, ◌∙◌, inl, inr}
+use Rattle.std.proofs.Common.{◌≡◌, ℕ, true, false, ◌⊎◌, List, get_or, Some, None, sym, refl, ap, ◌∙◌, subst, inl, inr}
 use Rattle.std.proofs.lemmas.Bool.{both_ways}
 use Rattle.kinds.specs.Kinds.{Operations, is_expired}
 use Rattle.kinds.specs.Recency.{instance_at}
 use Rattle.places.specs.PlaceSets.{has}
 use Rattle.tables.specs.declared.element.Element.{Element}
 use Rattle.lines.specs.Lines.{is_synchronizing, no_line, some_owed}
+use Rattle.database.specs.declared.node.Node.{Node}
+use Rattle.database.specs.Entries.{settled}
 use Rattle.database.specs.Nodes.{World, world, element_at}
-use Rattle.database.specs.Seconds.{dropped_all, aged_all, second_world}
+use Rattle.database.specs.Seconds.{dropped_all, aged_all, raised_counts, second_world}
 use Rattle.calls.specs.Laws.{Ages, Drops, KeepsOnePlace}
 use Rattle.calls.proofs.AgeLaws.{Aged, age_all}
 use Rattle.calls.proofs.DropLaws.{Dropped, drop_all, none_where, not_both}
@@ -110,3 +112,14 @@ module _ {I : Type 0} (ops : Operations I) (w : World I) where
   -- and so does a call that leaves all as it was
   pub not_passed : Passed w
   not_passed = (λ one. one, no_drops, no_ages)
+
+  -- what follows aging, of the world that it leaves
+  abbrev finished : World I → World I
+  finished u = world (settled (raised_counts u.node)) u.elements u.wants
+
+  -- and so do the passes, one after another
+  pub in_passes : (dropped older counted left : Node) (xs : List I) → dropped ≡ dropped_all ops w.elements w.node → world older xs w.wants ≡ aged_all ops (world dropped w.elements w.wants) → counted ≡ raised_counts older → left ≡ settled counted → Passed (world left xs w.wants)
+  in_passes dropped older counted left xs d a c s =
+      let last : world left xs w.wants ≡ world (settled (raised_counts older)) xs w.wants = ap (λ n. world n xs w.wants) (s ∙ ap settled c) in
+      let all : world left xs w.wants ≡ second_world ops w = last ∙ ap finished (a ∙ ap (λ n. aged_all ops (world n w.elements w.wants)) d) in
+      subst Passed (sym all) passed

@@ -11,6 +11,7 @@ use kinds::kind::Kind;
 use lines::line::State;
 
 // As a restart, but to down, and nothing is due.
+#[tactic(auto, using(crate::proofs::CallLaws::down_laws))]
 pub fn down<K: Kind>(
     node: &mut Node,
     elements: &mut [K],
@@ -23,21 +24,6 @@ pub fn down<K: Kind>(
     ensures wants { wants.new ≡ wants.old }
     ensures refused { Untouched result (world node.old elements.old wants.old) (world node.new elements.new wants.new) }
     ensures one_place { KeepsOnePlace node.old node.new }
-{
-    take_down(node, elements, wants, line)
-}
-
-// Stays apart from `down`: the steps leave at several exits, and the laws follow once, from what all of them ensure.
-fn take_down<K: Kind>(
-    node: &mut Node,
-    elements: &mut [K],
-    wants: &mut [K],
-    line: usize,
-) -> Result<(), Refusal>
-    ensures answer { result ≡ down_answer (world node.old elements.old wants.old) line }
-    ensures node { node.new ≡ (down_world (world node.old elements.old wants.old) line).node }
-    ensures elements { elements.new ≡ elements.old }
-    ensures wants { wants.new ≡ wants.old }
 {
     check_rows(elements, wants)?;
     check_line(line)?;

@@ -29,6 +29,7 @@ struct Succession<K> {
     new: K,
 }
 
+#[tactic(auto, using(crate::proofs::CallLaws::originate_laws))]
 pub fn originate<K: Kind>(
     node: &mut Node,
     elements: &mut [K],
@@ -42,21 +43,6 @@ pub fn originate<K: Kind>(
     ensures refused { Untouched result (world node.old elements.old wants.old) (world node.new elements.new wants.new) }
     ensures one_place { KeepsOnePlace node.old node.new }
     ensures enters { EntersOnly K.model (own_name node.old origination.entry.number) (world node.old elements.old wants.old) (world node.new elements.new wants.new) }
-{
-    enter_own(node, elements, wants, origination)
-}
-
-// Stays apart from `originate`: the steps leave at several exits, and the laws follow once, from what all of them ensure.
-fn enter_own<K: Kind>(
-    node: &mut Node,
-    elements: &mut [K],
-    wants: &mut [K],
-    origination: Origination,
-) -> Result<(), Refusal>
-    ensures answer { result ≡ originate_answer K.model (world node.old elements.old wants.old) origination.entry }
-    ensures node { node.new ≡ (originate_world K.model (world node.old elements.old wants.old) origination.entry).node }
-    ensures elements { elements.new ≡ (originate_world K.model (world node.old elements.old wants.old) origination.entry).elements }
-    ensures wants { wants.new ≡ wants.old }
 {
     check_rows(elements, wants)?;
     if !is_sound(origination.body, origination.time) {

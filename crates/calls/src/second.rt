@@ -9,6 +9,7 @@ use crate::refusal::Refusal;
 use database::node::Node;
 use kinds::kind::Kind;
 
+#[tactic(auto, using(crate::proofs::CallLaws::second_laws))]
 pub fn second<K: Kind>(node: &mut Node, elements: &mut [K], wants: &mut [K]) -> Result<(), Refusal>
     ensures answer { result ≡ second_answer (world node.old elements.old wants.old) }
     ensures node { node.new ≡ (second_left K.model (world node.old elements.old wants.old)).node }
@@ -18,16 +19,6 @@ pub fn second<K: Kind>(node: &mut Node, elements: &mut [K], wants: &mut [K]) -> 
     ensures one_place { KeepsOnePlace node.old node.new }
     ensures drops { Drops K.model (world node.old elements.old wants.old) (world node.new elements.new wants.new) }
     ensures ages { Ages K.model (world node.old elements.old wants.old) (world node.new elements.new wants.new) }
-{
-    pass_second(node, elements, wants)
-}
-
-// Stays apart from `second`: the steps leave at several exits, and the laws follow once, from what all of them ensure.
-fn pass_second<K: Kind>(node: &mut Node, elements: &mut [K], wants: &mut [K]) -> Result<(), Refusal>
-    ensures answer { result ≡ second_answer (world node.old elements.old wants.old) }
-    ensures node { node.new ≡ (second_left K.model (world node.old elements.old wants.old)).node }
-    ensures elements { elements.new ≡ (second_left K.model (world node.old elements.old wants.old)).elements }
-    ensures wants { wants.new ≡ wants.old }
 {
     check_rows(elements, wants)?;
     node.drop_expired(elements);

@@ -11,6 +11,7 @@ use kinds::kind::Kind;
 use packets::ids::NodeId;
 
 // The line negotiates, and an initial summary is due.
+#[tactic(auto, using(crate::proofs::CallLaws::up_laws))]
 pub fn up<K: Kind>(
     node: &mut Node,
     elements: &mut [K],
@@ -25,23 +26,6 @@ pub fn up<K: Kind>(
     ensures wants { wants.new ≡ wants.old }
     ensures refused { Untouched result (world node.old elements.old wants.old) (world node.new elements.new wants.new) }
     ensures one_place { KeepsOnePlace node.old node.new }
-{
-    bring_up(node, elements, wants, line, neighbour, ds_number)
-}
-
-// Stays apart from `up`: the steps leave at several exits, and the laws follow once, from what all of them ensure.
-fn bring_up<K: Kind>(
-    node: &mut Node,
-    elements: &mut [K],
-    wants: &mut [K],
-    line: usize,
-    neighbour: NodeId,
-    ds_number: u32,
-) -> Result<(), Refusal>
-    ensures answer { result ≡ up_answer (world node.old elements.old wants.old) line neighbour }
-    ensures node { node.new ≡ (up_world (world node.old elements.old wants.old) line neighbour ds_number).node }
-    ensures elements { elements.new ≡ elements.old }
-    ensures wants { wants.new ≡ wants.old }
 {
     check_rows(elements, wants)?;
     check_line(line)?;

@@ -1,9 +1,10 @@
+use Rattle.std.proofs.Common.{sym}
 use Rattle.database.specs.Nodes.{world}
-use Rattle.calls.proofs.CallLaws.{originate_laws}
+use Rattle.calls.proofs.OriginationLaws.{entry_keeps_them}
 use Rattle.calls.proofs.originate.originate.Goals as goal
 
-pub returns : goal.returns
-returns g c =
-    let done = c.enter_own.ensures in
-    let laws = originate_laws (world c.args.node.now c.args.elements.now c.args.wants.now) g.K.Kind.model c.args.origination _ _ _ _ done.answer done.node done.elements done.wants in
-    record { answer = done.answer; node = done.node; elements = done.elements; wants = done.wants; refused = laws.0; one_place = laws.1; enters = laws.2 }
+pub returns-clause-one_place : goal.returns-clause-one_place
+returns-clause-one_place g c = (entry_keeps_them g.K.Kind.model (world c.args.node.now c.args.elements.now c.args.wants.now) c.args.origination c.in_ok-place.field-0 _ _ _ (sym c.in_ok-place.ensures) c.enter.ensures.node c.enter.ensures.elements c.settle.ensures.node).0
+
+pub returns-clause-enters : goal.returns-clause-enters
+returns-clause-enters g c = (entry_keeps_them g.K.Kind.model (world c.args.node.now c.args.elements.now c.args.wants.now) c.args.origination c.in_ok-place.field-0 _ _ _ (sym c.in_ok-place.ensures) c.enter.ensures.node c.enter.ensures.elements c.settle.ensures.node).1
