@@ -16,7 +16,6 @@ use Rattle.calls.specs.declared.refusal.Refusal.{Refusal}
 use Rattle.calls.specs.Calls.{done, next_at, originated, own_element, own_name, settled_world, succession_from, succession_of}
 use Rattle.calls.specs.Laws.{EntersOnly, KeepsOnePlace}
 use Rattle.calls.proofs.OnePlaceLaws.{AtOnePlace, entered_here, entry_keeps, free_within, held_nowhere, held_there, held_within, own_same}
-use Rattle.calls.proofs.RefusalLaws.{granted}
 
 -- a place of the table at which the name is, or may enter
 abbrev Fit : List (Option Element) → Name → ℕ → Type 0
@@ -53,7 +52,7 @@ module _ {I : Type 0} (ops : Operations I) (w : World I) (s : Origination) where
       ]
 
   -- names at one place, and a row that changes only where the name then is
-  abbrev pub Kept : World I → Type 0
+  abbrev Kept : World I → Type 0
   Kept after = KeepsOnePlace w.node after.node × EntersOnly ops name w (world after.node after.elements w.wants)
 
   -- whatever the succession, they are kept
@@ -62,25 +61,12 @@ module _ {I : Type 0} (ops : Operations I) (w : World I) (s : Origination) where
   kept_by (Err r) f = (λ one. one, λ q. inl refl)
 
   -- the succession that is looked for
-  abbrev pub outcome : Result (Succession I) Refusal
+  abbrev outcome : Result (Succession I) Refusal
   outcome = succession_of ops w.node w.elements name s.check s.time
 
   -- what an origination leaves, if no reason before it applies
-  pub originated_keeps : Kept (originated ops w s outcome)
+  originated_keeps : Kept (originated ops w s outcome)
   originated_keeps = kept_by outcome (succeeds ops w.node.places name w.elements s.check s.time (place_of w.node.places name) (free_place w.node.places) refl refl)
-
-  -- a succession that is refused leaves all as it was
-  refused_by : (t : Result (Succession I) Refusal) (reason : Refusal) → done t ≡ Err reason → originated ops w s t ≡ w
-  refused_by (Ok t) reason e = granted w _ tt reason e
-  refused_by (Err r) reason e = refl
-
-  -- without a place, or without a next instance, it leaves all as it was
-  pub originated_refused : (reason : Refusal) → done outcome ≡ Err reason → originated ops w s outcome ≡ w
-  originated_refused = refused_by outcome
-
-  -- where nothing is originated, they are kept
-  pub unoriginated : Kept w
-  unoriginated = (λ one. one, λ q. inl refl)
 
   -- an instance that enters and a node that settles keep them
   pub entry_keeps_them : (t : Succession I) (between left : Node) (xs : List I) → outcome ≡ Ok t → between ≡ entered_node ops w.wants t.place (own_element w.node s) t.new s.body.now w.node → xs ≡ set w.elements t.place t.new → left ≡ settled between → Kept (world left xs w.wants)

@@ -89,29 +89,13 @@ module _ {I : Type 0} (ops : Operations I) (w : World I) where
   second_keeps : KeepsOnePlace w.node after.node
   second_keeps = fewer_keep w.node.places after.node.places fewer
 
-  -- where nothing changes, nothing is dropped
-  no_drops : Drops ops w w
-  no_drops = record {
-    expired = λ p e held free. absurd (not_both _ e held free);
-    owed_to_nobody = λ p e held free i l. absurd (not_both _ e held free);
-    nobody_synchronizing = λ p e held free i l. absurd (not_both _ e held free);
-  }
-
-  -- where nothing changes, nothing is older
-  no_ages : Ages ops w w
-  no_ages = record { expired_stays = λ p x. refl; elsewhere_stays = λ p free. refl; only_ages = λ p. inl refl }
-
   -- the laws of a second, of the node and the row that are left
-  abbrev pub Passed : World I → Type 0
+  abbrev Passed : World I → Type 0
   Passed u = KeepsOnePlace w.node u.node × Drops ops w (world u.node u.elements w.wants) × Ages ops w (world u.node u.elements w.wants)
 
   -- a second keeps them
-  pub passed : Passed (second_world ops w)
+  passed : Passed (second_world ops w)
   passed = (second_keeps, second_drops, second_ages)
-
-  -- and so does a call that leaves all as it was
-  pub not_passed : Passed w
-  not_passed = (λ one. one, no_drops, no_ages)
 
   -- what follows aging, of the world that it leaves
   abbrev finished : World I → World I

@@ -11,7 +11,7 @@ use kinds::kind::Kind;
 use lines::line::State;
 
 // As a restart, but to down, and nothing is due.
-#[tactic(auto, using(crate::proofs::CallLaws::down_laws))]
+// Stays with the rows beside the node, as every call: a rule of the project (docs/DECISIONS.md, Language forms fixed from the start).
 pub fn down<K: Kind>(
     node: &mut Node,
     elements: &mut [K],

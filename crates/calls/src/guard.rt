@@ -10,7 +10,6 @@ use kinds::kind::Kind;
 use lines::marks;
 use packets::ids::NodeId;
 
-// Stays: node and rows come to each call one by one, since the rows are lent to it apart from the node.
 pub(crate) fn check_rows<K: Kind>(elements: &[K], wants: &[K]) -> Result<(), Refusal>
     ensures { result ≡ checked ((bad_rows elements.now wants.now ⇒ RowLength) ∷ []) (Ok tt) }
 {

@@ -29,7 +29,6 @@ struct Succession<K> {
     new: K,
 }
 
-#[tactic(auto, using(crate::proofs::CallLaws::originate_laws))]
 pub fn originate<K: Kind>(
     node: &mut Node,
     elements: &mut [K],

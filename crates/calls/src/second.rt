@@ -9,7 +9,6 @@ use crate::refusal::Refusal;
 use database::node::Node;
 use kinds::kind::Kind;
 
-#[tactic(auto, using(crate::proofs::CallLaws::second_laws))]
 pub fn second<K: Kind>(node: &mut Node, elements: &mut [K], wants: &mut [K]) -> Result<(), Refusal>
     ensures answer { result ≡ second_answer (world node.old elements.old wants.old) }
     ensures node { node.new ≡ (second_left K.model (world node.old elements.old wants.old)).node }

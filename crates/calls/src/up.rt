@@ -11,7 +11,6 @@ use kinds::kind::Kind;
 use packets::ids::NodeId;
 
 // The line negotiates, and an initial summary is due.
-#[tactic(auto, using(crate::proofs::CallLaws::up_laws))]
 pub fn up<K: Kind>(
     node: &mut Node,
     elements: &mut [K],
