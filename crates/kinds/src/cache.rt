@@ -46,7 +46,7 @@ impl Kind for Cache {
     // The larger sequence as a signed number, then expired over unexpired.
     fn rank(&self, other: &Cache) -> Rank {
         let sequence = self.sequence.cmp(&other.sequence);
-        let expiry = (self.left() == 0).cmp(&(other.left() == 0));
+        let expiry = self.is_expired().cmp(&other.is_expired());
         Rank::from(sequence.then(expiry))
     }
 

@@ -3,7 +3,6 @@ ghost use Rattle.std.specs.Prelude.{◌≡◌, length, MatchOption};
 ghost use Rattle.kinds.specs.Recency.{Newest, Succeeds, instance_at, newest_of, successor_of};
 
 use crate::kind::Kind;
-use crate::rank::Rank;
 
 // The index of the newest of some instances of one element, the first of those that rank the same.
 pub fn newest<K: Kind>(instances: &[K]) -> Option<usize>
@@ -13,9 +12,12 @@ pub fn newest<K: Kind>(instances: &[K]) -> Option<usize>
     instances
         .iter()
         .enumerate()
-        .reduce(|best, next| match next.1.rank(best.1) {
-            Rank::Higher => next,
-            Rank::Lower | Rank::Same => best,
+        .reduce(|(best, newest), (index, instance)| {
+            if instance.rank(newest).is_higher() {
+                (index, instance)
+            } else {
+                (best, newest)
+            }
         })
         .map(|(index, _)| index)
 }

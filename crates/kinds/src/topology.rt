@@ -43,7 +43,7 @@ impl Kind for Topology {
     // The larger sequence, then expired over unexpired, then the larger check.
     fn rank(&self, other: &Topology) -> Rank {
         let sequence = self.sequence.cmp(&other.sequence);
-        let expiry = (self.left() == 0).cmp(&(other.left() == 0));
+        let expiry = self.is_expired().cmp(&other.is_expired());
         let check = self.check.cmp(&other.check);
         Rank::from(sequence.then(expiry).then(check))
     }

@@ -22,7 +22,7 @@ impl Odd {
         ensures { result ≡ key_of self.now }
     {
         let step = u32::from(self.step);
-        if self.left() == 0 { step + 1 } else { step }
+        if self.is_expired() { step + 1 } else { step }
     }
 }
 

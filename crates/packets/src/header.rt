@@ -1,5 +1,6 @@
 // The eight bytes with which every packet begins.
 ghost use Rattle.std.specs.Prelude.{◌≡◌};
+ghost use Rattle.packets.specs.declared.header.HeaderFault.TheVariants as HeaderFault;
 ghost use Rattle.packets.specs.Headers.{header_of};
 
 use crate::layout::{PacketType, UnknownType};
@@ -24,6 +25,14 @@ pub enum HeaderFault {
     Type,
     // The part after the header is not all there.
     Cut,
+}
+
+impl From<UnknownType> for HeaderFault {
+    ghost from_gives = { λ unknown fault. fault ≡ HeaderFault.Type };
+
+    fn from(_unknown: UnknownType) -> HeaderFault {
+        HeaderFault::Type
+    }
 }
 
 // The part after the header is read by the packet's own reader, which finds whether it is cut.
@@ -53,9 +62,7 @@ pub fn read_header(packet: &[u8]) -> Result<Header, HeaderFault>
     if *version != 1 {
         return Err(HeaderFault::Version);
     }
-    let packet_type = PacketType::try_from(u16::from_be_bytes([*type_high, *type_low])).map_err(
-        |UnknownType(_)| HeaderFault::Type,
-    )?;
+    let packet_type = PacketType::try_from(u16::from_be_bytes([*type_high, *type_low]))?;
     Ok(Header {
         packet_type,
         newest: *newest,

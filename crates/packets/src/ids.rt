@@ -21,14 +21,15 @@ pub struct Name {
 }
 
 impl NodeId {
-    // Stays beside the derived `==`: a derive has no clause.
+    // Stays beside the derived `==`: the clause says by `same_node` what the operator means, and an edit meets it.
     pub fn same(&self, other: &NodeId) -> bool
         ensures { result ≡ same_node self.now other.now }
     {
         self == other
     }
 
-    // As unsigned numbers. Stays beside the derived `>`: a derive has no clause.
+    // As unsigned numbers.
+    // Stays beside the derived `>`: the clause says by `larger_node` what the operator means, and an edit meets it.
     #[tactic(auto, using(crate::proofs::IdLaws::is_larger))]
     pub fn is_larger(&self, other: &NodeId) -> bool
         ensures { result ≡ larger_node self.now other.now }
@@ -38,7 +39,7 @@ impl NodeId {
 }
 
 impl Name {
-    // Stays beside the derived `==`: a derive has no clause.
+    // Stays beside the derived `==`: the clause says by `same_name` what the operator means, and an edit meets it.
     pub fn same(&self, other: &Name) -> bool
         ensures { result ≡ same_name self.now other.now }
     {

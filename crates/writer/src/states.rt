@@ -1,10 +1,11 @@
 // A packet that is being written: open, with a group open, or finished. Each state is a few numbers that move from step
 // to step, and the buffer is lent to each step. What is open is not `Drop`, so it has to be closed and finished.
-ghost use Rattle.std.specs.Prelude.{◌≡◌, ◌+◌, ◌≤◌, [], ◌∷◌, ◌++◌, length, slice_set};
+ghost use Rattle.std.specs.Prelude.{◌≡◌, ◌+◌, ◌≤◌, [], ◌∷◌, ◌++◌, length};
 ghost use Rattle.writer.specs.Writers.{added, added_bytes, begun, begun_bytes, closed, closed_bytes, finished, finished_bytes, fits_in, grouped, grouped_bytes, pasted, put16_at};
 
 use packets::header::HeaderFault;
 use packets::layout::PacketType;
+use places::row::put;
 
 // No packet is longer.
 pub const LONGEST: usize = 2048;
@@ -143,8 +144,7 @@ impl GroupOpen {
     }
 }
 
-// Stays: of pieces as one `&[&[u8]]`, which would replace first to fourth here and in `append`, the borrow checker takes no array
-// in `group`, whose three pieces are lent for different lifetimes; and one lifetime for all is another public signature.
+// Stays: the pieces come one by one, as the borrow checker takes no array of slices that are lent for different lifetimes.
 // Whether some bytes and three pieces can be added without passing the longest packet or the buffer's end.
 fn fits(len: u16, buffer: &[u8], more: usize, first: &[u8], second: &[u8], third: &[u8]) -> bool
     requires { more ≤ 8 }
@@ -184,13 +184,4 @@ fn put16(buffer: &mut [u8], at: usize, n: u16)
     let [high, low] = n.to_be_bytes();
     put(buffer, at, high);
     put(buffer, at + 1, low);
-}
-
-// Stays: where a slice's `get_mut` gives `None`, a proof knows no more what the slice has.
-fn put(buffer: &mut [u8], at: usize, byte: u8)
-    ensures { buffer.new ≡ slice_set buffer.old at byte }
-{
-    if at < buffer.len() {
-        buffer[at] = byte;
-    }
 }
