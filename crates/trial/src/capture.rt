@@ -21,7 +21,7 @@ pub(crate) fn report<S: Style>(rt: &HostRuntime, text: &str) -> anyhow::Result<(
     let packets = text::read(rt, text, "no packets, and nothing is reported", |line| {
         captured(rt.alloc(), line)
     })?;
-    for packet in packets.iter() {
+    for packet in &packets {
         print::<S>(rt, packet.at, packet.content.as_slice())?;
     }
     Ok(())

@@ -32,10 +32,10 @@ impl Layout for Csv {
         play: &Play<K>,
     ) -> io::Result<()> {
         answer(rt, number, &step.content, outcome)?;
-        for line in play.node.lines.iter() {
+        for line in &play.node.lines {
             print!(rt; ",{}", Shown(line.state))?;
         }
-        for line in play.node.lines.iter() {
+        for line in &play.node.lines {
             owed(rt, &play.node, line)?;
         }
         held(rt, &play.node, &play.elements)?;

@@ -9,7 +9,7 @@ pub(crate) fn report(rt: &HostRuntime, text: &str) -> anyhow::Result<()> {
     let requests = text::read(rt, text, "no requests, and nothing is reported", |line| {
         Ok(request::read(rt.alloc(), line))
     })?;
-    for request in requests.iter() {
+    for request in &requests {
         answer(rt, request.at, &request.content)?;
     }
     Ok(())

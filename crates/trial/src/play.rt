@@ -43,18 +43,11 @@ impl<K: Kind> Play<K> {
     }
 
     fn originate(&mut self, element: &OwnElement) -> Outcome {
-        let origination = Origination {
-            number: element.number,
-            element_type: element.element_type,
-            check: element.check,
-            time: element.time,
-            body: element.body.as_slice(),
-        };
         Outcome::from(originate::originate(
             &mut self.node,
             &mut self.elements,
             &mut self.wants,
-            origination,
+            Origination::from(element),
         ))
     }
 }

@@ -20,7 +20,7 @@ pub(crate) fn print<E: Edition>(
         .collect(rt.alloc())?;
     let count = editions.len();
     println!(rt; "line {line}: {kind}, {count} captured")?;
-    for (number, edition) in (1..).zip(editions.iter()) {
+    for (number, edition) in (1..).zip(&editions) {
         one(rt, number, request, edition)?;
     }
     if let Some(best) = recency::newest(editions.as_slice()) {
@@ -83,15 +83,15 @@ fn newest<E: Edition>(rt: &HostRuntime, best: usize, editions: &[E]) -> io::Resu
     let Some(newest) = editions.get(best) else {
         return Ok(());
     };
-    let best = best + 1;
-    println!(rt; "  the newest is edition {best}")?;
+    let first = best + 1;
+    println!(rt; "  the newest is edition {first}")?;
     for (number, edition) in (1..).zip(editions) {
         match newest.rank(edition) {
             Rank::Higher => {
                 let reason = newest.newer_by(edition);
                 println!(rt; "    newer than edition {number}: {reason}")?;
             }
-            Rank::Same if number != best => println!(rt; "    the same as edition {number}")?,
+            Rank::Same if number != first => println!(rt; "    the same as edition {number}")?,
             _ => {}
         }
     }

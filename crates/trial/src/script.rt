@@ -3,6 +3,7 @@ use crate::text::Numbered;
 use crate::words::{Fault, KindName};
 use crate::{text, words};
 use anyhow::anyhow;
+use calls::originate::Origination;
 use packets::ids::{NodeId, PeerGroupId};
 use std::alloc::Global;
 use std::fmt;
@@ -41,6 +42,18 @@ pub(crate) struct OwnElement {
     pub check: u16,
     pub time: u16,
     pub body: Vec<u8>,
+}
+
+impl<'a> From<&'a OwnElement> for Origination<'a> {
+    fn from(element: &'a OwnElement) -> Origination<'a> {
+        Origination {
+            number: element.number,
+            element_type: element.element_type,
+            check: element.check,
+            time: element.time,
+            body: element.body.as_slice(),
+        }
+    }
 }
 
 // The script's word for it.
@@ -91,34 +104,44 @@ const TIME: &str = "TIME, a number up to 65535";
 const BODY: &str = "BODY, pairs of hex digits or - for none";
 
 pub(crate) fn read(rt: &HostRuntime, text: &str) -> anyhow::Result<Script> {
-    let mut begin = None;
+    let mut first = First::Unread;
     let steps = text::read(rt, text, "no calls, and nothing is played", |line| {
-        Ok(read_line(rt.alloc(), &mut begin, line))
+        Ok(read_line(rt.alloc(), &mut first, line))
     })?;
-    match begin {
-        Some(Some(start)) => Ok(Script { start, steps }),
-        _ => Err(anyhow!("expected start KIND NODE GROUP, found the end of the script")),
+    match first {
+        First::Read(start) => Ok(Script { start, steps }),
+        First::Unread | First::Bad => {
+            Err(anyhow!("expected start KIND NODE GROUP, found the end of the script"))
+        }
     }
 }
 
-// `None` for a line without words, and for the first with some: it goes to `begin`, as `Some(None)` where it is bad.
+// What became of the first line with words.
+#[derive(Clone, Copy)]
+enum First {
+    Unread,
+    Bad,
+    Read(Start),
+}
+
+// `None` for a line without words, and for the first with some, which goes to `first`.
 fn read_line<'a>(
     heap: Global,
-    begin: &mut Option<Option<Start>>,
+    first: &mut First,
     line: &'a str,
 ) -> Result<Option<Call>, Fault<'a>> {
     let mut words = line.split_whitespace();
     let Some(word) = words.next() else {
         return Ok(None);
     };
-    if begin.is_some() {
+    if let First::Unread = first {
+        *first = First::Bad;
         let rest: Vec<&str> = words.collect(heap)?;
-        return Ok(Some(read_call(heap, word, rest.as_slice())?));
+        *first = First::Read(read_start(word, rest.as_slice())?);
+        return Ok(None);
     }
-    *begin = Some(None);
     let rest: Vec<&str> = words.collect(heap)?;
-    *begin = Some(Some(read_start(word, rest.as_slice())?));
-    Ok(None)
+    Ok(Some(read_call(heap, word, rest.as_slice())?))
 }
 
 fn read_start<'a>(word: &'a str, rest: &[&'a str]) -> Result<Start, Fault<'a>> {

@@ -8,7 +8,6 @@ use crate::shown::Shown;
 use crate::text::Numbered;
 use database::node::Node;
 use kinds::kind::Kind;
-use lines::line::State;
 use std::io;
 
 const HEADER: &str =
@@ -38,18 +37,14 @@ impl Layout for Table {
 }
 
 fn lines(rt: &HostRuntime, node: &Node) -> io::Result<()> {
-    if node
-        .lines
-        .iter()
-        .all(|line| matches!(line.state, State::Down))
-    {
+    if node.lines.iter().all(|line| line.state.is_down()) {
         return rt.println("  none");
     }
     let up = node
         .lines
         .iter()
         .enumerate()
-        .filter(|(_, line)| !matches!(line.state, State::Down));
+        .filter(|(_, line)| !line.state.is_down());
     for (i, line) in up {
         let state = Shown(line.state);
         let owed = (0..64).filter(|place| line.owed.contains(*place)).count();

@@ -10,7 +10,8 @@ pub(crate) struct Numbered<T> {
     pub content: T,
 }
 
-// What a line holds, if not only a comment; the error around it ends the reading.
+// What a line holds, if not only a comment. Three layers: no memory ends the reading, a bad line is named and the next is
+// read, and a line without words gives nothing.
 pub(crate) type Read<T, E> = Result<Result<Option<T>, E>, AllocError>;
 
 // Every line is read before anything is said of one. Every bad one is named, and one bad line refuses all.
