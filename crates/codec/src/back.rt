@@ -11,6 +11,7 @@ ghost use Rattle.codec.specs.Backs.{Back, Reason, back_answer, back_bytes, clear
 ghost use Rattle.codec.specs.Faithful.{Faithful};
 ghost use Rattle.codec.specs.Reports.{Reported};
 
+use packets::bundle::element_head;
 use packets::entry::Entries;
 use packets::group::Groups;
 use packets::header::HeaderFault;
@@ -18,7 +19,7 @@ use packets::layout::PacketType;
 use packets::packet;
 use packets::packet::{Content, Fault, Packet};
 use packets::summary::Description;
-use writer::states::{Declined, Finished, GroupOpen, Open};
+use writer::states::{Finished, GroupOpen, Open};
 
 #[derive(Clone, Copy)]
 pub enum NotWritten {
@@ -65,9 +66,7 @@ fn write(packet: &Packet<'_>, buffer: &mut [u8]) -> usize
     ensures buffer { buffer.new ≡ pasted 0 (encode (view_of packet.now)) buffer.old }
     ensures faithful { Faithful }
 {
-    let Ok(draft) = begin(packet, buffer) else {
-        return 0;
-    };
+    let draft = begin(packet, buffer).unwrap();
     let draft = write_groups(
         draft,
         buffer,
@@ -94,18 +93,14 @@ fn begin(packet: &Packet<'_>, buffer: &mut [u8]) -> Result<Open, HeaderFault>
             &bundle.node.bytes,
             &bundle.group.bytes,
         ),
-        Content::Summary(summary) => {
-            let [f0, f1] = summary.head.flags.to_be_bytes();
-            let [d0, d1, d2, d3] = summary.head.ds_number.to_be_bytes();
-            Open::begin(
-                buffer,
-                of,
-                newest,
-                oldest,
-                &[f0, f1, 0, 0, d0, d1, d2, d3],
-                &[],
-            )
-        }
+        Content::Summary(summary) => Open::begin(
+            buffer,
+            of,
+            newest,
+            oldest,
+            &summary.head.bytes(),
+            &[],
+        ),
         Content::Acknowledgement(_) | Content::Request(_) => Open::begin(
             buffer,
             of,
@@ -163,7 +158,9 @@ fn write_group(draft: Open, buffer: &mut [u8], of: PacketType, content: &[u8]) -
 }
 
 // A group of three pieces, with descriptions behind them.
-// Stays: the pieces are parameters one by one, as the writer's step takes them; no other function has them.
+// Stays: the pieces are parameters one by one, as the writer's step takes them.
+// Stays beside the like steps of compose: made once they would be public functions of writer with a premise, and a public function has
+// none (CONTRIBUTING.md, Contracts).
 fn write_pieces(
     draft: Open,
     buffer: &mut [u8],
@@ -177,10 +174,8 @@ fn write_pieces(
     ensures state { result ≡ record { len = draft.len + length (framed of ((first.now ++ (second.now ++ third.now)) ++ cleared_entries (length entries.now) entries.now)) } }
     ensures bytes { buffer.new ≡ pasted draft.len (framed of ((first.now ++ (second.now ++ third.now)) ++ cleared_entries (length entries.now) entries.now)) buffer.old }
 {
-    match draft.group(buffer, of, first, second, third) {
-        Ok(group) => write_descriptions(group, buffer, entries).close(buffer),
-        Err(Declined { state, fault: _ }) => state,
-    }
+    let group = draft.group(buffer, of, first, second, third).unwrap();
+    write_descriptions(group, buffer, entries).close(buffer)
 }
 
 fn write_descriptions(group: GroupOpen, buffer: &mut [u8], entries: &[u8]) -> GroupOpen
@@ -205,10 +200,5 @@ fn write_description(group: GroupOpen, buffer: &mut [u8], description: Descripti
         number,
         instance,
     } = description;
-    let [k0, k1] = element_type.to_be_bytes();
-    let [n0, n1, n2, n3] = number.to_be_bytes();
-    match group.add(buffer, &[k0, k1, 0, 0, n0, n1, n2, n3], &instance) {
-        Ok(group) => group,
-        Err(Declined { state, fault: _ }) => state,
-    }
+    group.add(buffer, &element_head(element_type, number), &instance).unwrap()
 }
