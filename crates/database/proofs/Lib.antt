@@ -1,1 +1,2 @@
+pub mod DropLaws
 pub mod NodeLaws

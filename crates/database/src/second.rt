@@ -1,5 +1,6 @@
 // The passes of a second: drop, age, counts.
-ghost use Rattle.std.specs.Prelude.{◌≡◌, ◌<◌};
+ghost use Rattle.std.specs.Prelude.{◌≡◌, ◌<◌, length};
+ghost use Rattle.kinds.specs.Recency.{instance_at};
 ghost use Rattle.database.specs.Nodes.{world};
 ghost use Rattle.database.specs.Seconds.{aged_all, aged_at, dropped_all, dropped_at, raised_counts};
 ghost use Rattle.lines.specs.Tables.{in_turn};
@@ -20,22 +21,19 @@ impl Node {
         }
     }
 
-    // Stays a walk over the 64 places of a node, as a lent row may be of any length, and each step changes the whole node.
+    // What a row holds past the places of a node is of no element.
     fn drop_each<K: Kind>(&mut self, elements: &[K])
         ensures { self.new ≡ in_turn (dropped_at K.model elements.now) 64 self.old }
     {
-        for place in 0..64 {
-            self.drop_at(elements, place);
+        for (place, instance) in elements.iter().enumerate().take(64) {
+            self.drop_at(place, instance);
         }
     }
 
-    fn drop_at<K: Kind>(&mut self, elements: &[K], place: usize)
+    fn drop_at<K: Kind>(&mut self, place: usize, instance: &K)
         requires { place < 64 }
-        ensures { self.new ≡ dropped_at K.model elements.now place self.old }
+        ensures { (xs : _) → place < length xs → instance_at K.model xs place ≡ instance.now → self.new ≡ dropped_at K.model xs place self.old }
     {
-        let Some(instance) = elements.get(place) else {
-            return;
-        };
         if self.places[place].is_some()
             && instance.is_expired()
             && !marks::is_owed(&self.lines, place)
