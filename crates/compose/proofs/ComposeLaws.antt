@@ -131,9 +131,9 @@ packet_written t a b gs buffer at o mid last out f e m w k x le =
     }
 
 -- what is written where the guard holds
-pub written_whole : (fits : Bool) (view : PacketView) (bytes buffer : List ℕ) (n : ℕ) (out : List ℕ) → fits ≡ true → encode view ≡ bytes → Appended 0 bytes buffer n out → (n ≡ composed_length fits view) × (out ≡ composed fits view buffer)
+pub written_whole : (fits : Bool) (view : PacketView) (bytes buffer : List ℕ) (n : ℕ) (out : List ℕ) → fits ≡ true → encode view ≡ bytes → Appended 0 bytes buffer n out → (Some n ≡ composed_length fits view) × (out ≡ composed fits view buffer)
 written_whole fits view bytes buffer n out holds e w =
     let l : n ≡ length bytes = omega (arith, w.state) in (
-      l ∙ sym (ap length e) ∙ sym (cond-true _ _ _ holds),
+      ap Some (l ∙ sym (ap length e)) ∙ sym (cond-true _ _ _ holds),
       w.stands ∙ sym (ap (λ ys. pasted 0 ys buffer) e) ∙ sym (cond-true _ _ _ holds),
     )

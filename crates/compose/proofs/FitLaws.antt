@@ -1,5 +1,5 @@
 -- What a caller chooses meets the guards. Assumes nothing.
-use Rattle.std.proofs.Common.{◌≡◌, ℕ, ◌+◌, ◌≤◌, Bool, true, false, cond, ◌&&◌, leb, List, [], ◌∷◌, ◌++◌, length, drop, Option, refl, ap, ◌∙◌, arith, length-take}
+use Rattle.std.proofs.Common.{◌≡◌, ℕ, ◌+◌, ◌≤◌, Bool, true, false, cond, ◌&&◌, leb, List, [], ◌∷◌, ◌++◌, length, drop, Some, Option, refl, ap, ◌∙◌, arith, length-take}
 use Rattle.std.proofs.lemmas.Bool.{and_from, cond-true, le-leb, leb-true}
 use Rattle.packets.specs.Contents.{PacketView}
 use Rattle.packets.specs.Encodings.{encode}
@@ -18,7 +18,7 @@ module _ (fits : Bool) (content : PacketView) (buffer : List ℕ) (holds : fits 
       let n : 0 + length (encode content) ≡ length (encode content) = omega arith in
       cond-true _ _ _ holds ∙ ap (λ m. encode content ++ drop m buffer) n
 
-  pub composed_long : composed_length fits content ≡ length (encode content)
+  pub composed_long : composed_length fits content ≡ Some (length (encode content))
   composed_long = cond-true _ _ _ holds
 
 -- the first places of a summary or a request

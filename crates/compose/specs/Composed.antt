@@ -1,5 +1,5 @@
 -- Our own packets as they are written: what each says, and when it is written. Assumes nothing.
-use Rattle.std.specs.Prelude.{ℕ, ◌+◌, Bool, cond, ◌&&◌, List, [], ◌∷◌, length, Option, nat_le}
+use Rattle.std.specs.Prelude.{ℕ, ◌+◌, Bool, cond, ◌&&◌, List, [], ◌∷◌, length, Some, None, Option, nat_le}
 use Rattle.kinds.specs.Kinds.{Operations}
 use Rattle.packets.specs.declared.acknowledgement.Acknowledged.{Acknowledged}
 use Rattle.packets.specs.declared.ids.NodeId.{NodeId}
@@ -17,9 +17,9 @@ use Rattle.exchange.specs.Handing.{requested}
 use Rattle.exchange.specs.Selections.{groups_at}
 use Rattle.exchange.specs.Summaries.{description_of, packet}
 
--- the length of what is written, 0 where the guard fails
-abbrev pub composed_length : Bool → PacketView → ℕ
-composed_length fits content = cond fits (length (encode content)) 0
+-- the length of what is written, none where the guard fails
+abbrev pub composed_length : Bool → PacketView → Option ℕ
+composed_length fits content = cond fits (Some (length (encode content))) None
 
 -- a packet over the first bytes of a buffer, which stays where the guard fails
 abbrev pub composed : Bool → PacketView → List ℕ → List ℕ

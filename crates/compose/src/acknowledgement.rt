@@ -15,17 +15,17 @@ use writer::states::{GroupOpen, LONGEST, Open};
 const MOST_ENTRIES: usize = 100;
 
 // Nothing is written for more than 100 entries or a short buffer.
-pub fn write_acknowledgement(buffer: &mut [u8], node: NodeId, entries: &[Acknowledged]) -> usize
+pub fn write_acknowledgement(buffer: &mut [u8], node: NodeId, entries: &[Acknowledged]) -> Option<usize>
     ensures written { result ≡ composed_length (few_entries entries.now buffer.old) (acknowledgement_content node entries.now) }
     ensures buffer { buffer.new ≡ composed (few_entries entries.now buffer.old) (acknowledgement_content node entries.now) buffer.old }
 {
     if entries.len() > MOST_ENTRIES || buffer.len() < LONGEST {
-        return 0;
+        return None;
     }
     // Stays apart from `write_packet`: its one group is of no place of a table, and a table made for it is no plainer.
     let draft = begin(buffer, PacketType::Acknowledgement, &[], &[]);
     let draft = write_group(draft, buffer, node, entries);
-    usize::from(draft.finish(buffer).len)
+    Some(usize::from(draft.finish(buffer).len))
 }
 
 fn write_group(draft: Open, buffer: &mut [u8], node: NodeId, entries: &[Acknowledged]) -> Open

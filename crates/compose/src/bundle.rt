@@ -6,6 +6,7 @@ ghost use Rattle.compose.specs.Framed.{element_group};
 use crate::frame::{WriteGroup, write_packet, write_pieces};
 use kinds::kind::Kind;
 use kinds::recency::instance_at;
+use packets::bundle::element_head;
 use packets::ids::{NodeId, PeerGroupId};
 use packets::layout::PacketType;
 use places::store::BodyStore;
@@ -21,14 +22,14 @@ pub fn write_bundle<K: Kind>(
     node: NodeId,
     group: PeerGroupId,
     chosen: &[usize],
-) -> usize
+) -> Option<usize>
     ensures written { result ≡ composed_length (short bodies.now chosen.now buffer.old) (bundle_content K.model places.now bodies.now elements.now node group chosen.now) }
     ensures buffer { buffer.new ≡ composed (short bodies.now chosen.now buffer.old) (bundle_content K.model places.now bodies.now elements.now node group chosen.now) buffer.old }
 {
     if !is_short(bodies, chosen) || buffer.len() < LONGEST {
-        return 0;
+        return None;
     }
-    write_packet(
+    Some(write_packet(
         buffer,
         PacketType::Bundle,
         &node.bytes,
@@ -36,7 +37,7 @@ pub fn write_bundle<K: Kind>(
         &ElementGroups { bodies, elements },
         places,
         chosen,
-    )
+    ))
 }
 
 // Whether a bundle of these places passes no packet's length.
@@ -64,13 +65,11 @@ impl<'a, K: Kind> WriteGroup for ElementGroups<'a, K> {
 
     fn write_group(&self, draft: Open, buffer: &mut [u8], place: usize, element: Element) -> Open {
         let instance = instance_at(self.elements, place).write();
-        let [k0, k1] = element.element_type.to_be_bytes();
-        let [n0, n1, n2, n3] = element.name.number.to_be_bytes();
         write_pieces(
             draft,
             buffer,
             PacketType::Bundle,
-            &[k0, k1, 0, 0, n0, n1, n2, n3],
+            &element_head(element.element_type, element.name.number),
             &instance,
             self.bodies.body(place),
         )

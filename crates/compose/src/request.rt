@@ -10,14 +10,14 @@ use tables::want::Want;
 use writer::states::{LONGEST, Open};
 
 // A place that holds no want is passed over. Nothing is written for more than 32 places or a short buffer.
-pub fn write_request(buffer: &mut [u8], wants: &[Option<Want>], chosen: &[usize]) -> usize
+pub fn write_request(buffer: &mut [u8], wants: &[Option<Want>], chosen: &[usize]) -> Option<usize>
     ensures written { result ≡ composed_length (few chosen.now buffer.old) (request_content wants.now chosen.now) }
     ensures buffer { buffer.new ≡ composed (few chosen.now buffer.old) (request_content wants.now chosen.now) buffer.old }
 {
     if chosen.len() > MOST || buffer.len() < LONGEST {
-        return 0;
+        return None;
     }
-    write_packet(
+    Some(write_packet(
         buffer,
         PacketType::Request,
         &[],
@@ -25,7 +25,7 @@ pub fn write_request(buffer: &mut [u8], wants: &[Option<Want>], chosen: &[usize]
         &RequestGroups,
         wants,
         chosen,
-    )
+    ))
 }
 
 struct RequestGroups;
@@ -38,14 +38,13 @@ impl WriteGroup for RequestGroups {
     ghost most = { λ _ _. 32 };
 
     fn write_group(&self, draft: Open, buffer: &mut [u8], place: usize, want: Want) -> Open {
-        let [n0, n1, n2, n3] = want.name.number.to_be_bytes();
         write_pieces(
             draft,
             buffer,
             PacketType::Request,
             &want.name.node.bytes,
             &[0, 1],
-            &[n0, n1, n2, n3],
+            &want.name.number.to_be_bytes(),
         )
     }
 }

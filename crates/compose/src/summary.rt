@@ -10,6 +10,7 @@ use crate::frame::{WriteGroup, add_entry, open_group, write_packet};
 use exchange::select::MOST;
 use kinds::kind::Kind;
 use kinds::recency::instance_at;
+use packets::bundle::element_head;
 use packets::layout::PacketType;
 use packets::summary::SummaryHead;
 use tables::element::Element;
@@ -22,24 +23,22 @@ pub fn write_summary<K: Kind>(
     places: &[Option<Element>],
     elements: &[K],
     told: &[usize],
-) -> usize
+) -> Option<usize>
     ensures written { result ≡ composed_length (few told.now buffer.old) (summary_content K.model head.flags head.ds_number places.now elements.now told.now) }
     ensures buffer { buffer.new ≡ composed (few told.now buffer.old) (summary_content K.model head.flags head.ds_number places.now elements.now told.now) buffer.old }
 {
     if told.len() > MOST || buffer.len() < LONGEST {
-        return 0;
+        return None;
     }
-    let [f0, f1] = head.flags.to_be_bytes();
-    let [d0, d1, d2, d3] = head.ds_number.to_be_bytes();
-    write_packet(
+    Some(write_packet(
         buffer,
         PacketType::Summary,
-        &[f0, f1, 0, 0, d0, d1, d2, d3],
+        &head.bytes(),
         &[],
         &DescriptionGroups { elements },
         places,
         told,
-    )
+    ))
 }
 
 // What an element's description is made of besides the element.
@@ -71,14 +70,12 @@ fn write_description(draft: Open, buffer: &mut [u8], element: Element, instance:
         group,
         element_type,
     } = element;
-    let [k0, k1] = element_type.to_be_bytes();
-    let [n0, n1, n2, n3] = name.number.to_be_bytes();
     write_group(
         draft,
         buffer,
         &name.node.bytes,
         &group.bytes,
-        &[k0, k1, 0, 0, n0, n1, n2, n3],
+        &element_head(element_type, name.number),
         &instance,
     )
 }

@@ -1,4 +1,4 @@
-use Rattle.std.proofs.Common.{[], ◌∙◌, arith, rules}
+use Rattle.std.proofs.Common.{[], Some, ap, ◌∙◌, arith, rules}
 use Rattle.packets.specs.declared.layout.PacketType.TheVariants.{Acknowledgement}
 use Rattle.compose.specs.Composed.{acknowledgement_content, few_entries}
 use Rattle.compose.specs.Framed.{acknowledgement_group}
@@ -15,4 +15,4 @@ returns c =
     let end = c.finish.ensures in
     let packet = packet_written Acknowledgement [] [] (acknowledgement_group node entries) buffer _ _ _ _ _ _ begun.state begun.bytes c.write_group-draft.ensures end.state end.bytes (omega arith) in
     let w = written_whole (few_entries entries buffer) (acknowledgement_content node entries) _ buffer _ _ (search rules) (acknowledgement_parts node entries) packet in
-    record { written = c.from.ensures ∙ w.0; buffer = w.1 }
+    record { written = ap Some c.from.ensures ∙ w.0; buffer = w.1 }

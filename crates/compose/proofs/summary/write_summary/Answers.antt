@@ -15,6 +15,6 @@ returns g c =
     let elements = c.args.elements.now in
     let told = c.args.told.now in
     let buffer = c.args.buffer.now in
-    let parts = summary_parts ops places elements head.flags head.ds_number told _ _ c.to_be_bytes.ensures c.to_be_bytes-2.ensures in
+    let parts = summary_parts ops places elements head.flags head.ds_number told _ c.bytes.ensures in
     let w = written_whole (few told buffer) (summary_content ops head.flags head.ds_number places elements told) _ buffer _ _ (search rules) parts c.write_packet.ensures in
     record { written = w.0; buffer = w.1 }
