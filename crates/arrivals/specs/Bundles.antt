@@ -1,5 +1,5 @@
 -- What a bundle does, and what is written of it. Assumes nothing.
-use Rattle.std.specs.Prelude.{ℕ, cond, List, [], ◌∷◌, ◌++◌, map, length, nat_lt}
+use Rattle.std.specs.Prelude.{ℕ, ◌<◌, cond, List, [], ◌∷◌, ◌++◌, map, length, nat_lt}
 use Rattle.packets.specs.declared.acknowledgement.Acknowledged.{Acknowledged}
 use Rattle.packets.specs.declared.bundle.Bundle.{Bundle}
 use Rattle.packets.specs.declared.bundle.Element.{Element}
@@ -8,6 +8,8 @@ use Rattle.packets.specs.Bundles.{ElementView, element_at}
 use Rattle.packets.specs.Groups.{contents}
 use Rattle.tables.specs.declared.verdict.Verdict.{Verdict}
 use Rattle.exchange.specs.Arrivals.{is_acknowledged}
+use Rattle.places.specs.Lists.{listed}
+use Rattle.arrivals.specs.declared.bundle.Arrivals.{Arrivals}
 
 abbrev pub element_view : Element → ElementView
 element_view e = record { element_type = e.element_type; number = e.number; instance = e.instance; body = e.body.now }
@@ -25,3 +27,7 @@ bundled b = elements_of b.groups.now
 -- one more, if the verdict is one that is acknowledged
 abbrev pub noted : Verdict → Acknowledged → List Acknowledged → List Acknowledged
 noted v a xs = cond (is_acknowledged v) (xs ++ a ∷ []) xs
+
+-- there is room to note one more, acknowledged or left
+abbrev pub HasPlace : Arrivals → Type 0
+HasPlace a = (length (listed a.acknowledged) < 100) × (a.left < 100)

@@ -18,7 +18,8 @@ use tables::verdict::Verdict;
 use tables::wants;
 
 // Comes on a line, and may show there what is held, or call for it.
-// Stays: the node and the two rows go to each call as parameters, by a rule of the project.
+// Stays: the node and the rows are parameters of each call (a rule of the project, docs/DECISIONS.md, Language forms);
+// element, instance and body come one by one, as the public signature stands.
 pub fn arrive<K: Kind>(
     node: &mut Node,
     elements: &mut [K],

@@ -1,10 +1,10 @@
 // The elements of a bundle, one after the other.
-ghost use Rattle.std.specs.Prelude.{◌≡◌, ◌+◌, ◌<◌, ◌≤◌, [], length};
+ghost use Rattle.std.specs.Prelude.{◌≡◌, ◌+◌, ◌≤◌, [], length};
 ghost use Rattle.database.specs.Nodes.{world};
 ghost use Rattle.exchange.specs.Arrivals.{acknowledged_of, acknowledgement_of, arrival_of, arrived, bundle_world, left_by, left_of, verdict_on};
 ghost use Rattle.packets.specs.Bundles.{element_at};
 ghost use Rattle.places.specs.Lists.{listed};
-ghost use Rattle.arrivals.specs.Bundles.{bundled, element_view, elements_in, noted};
+ghost use Rattle.arrivals.specs.Bundles.{HasPlace, bundled, element_view, elements_in, noted};
 
 use crate::arrive::arrive;
 use database::node::Node;
@@ -15,7 +15,7 @@ use packets::bundle::Bundle;
 use packets::group::Groups;
 use packets::ids::Name;
 use packets::layout::PacketType;
-use places::list::List;
+use places::list;
 use tables::element::Element;
 use tables::verdict::Verdict;
 
@@ -25,7 +25,7 @@ const MOST_BYTES: usize = 2004;
 // What is acknowledged of a bundle, in its order, and how many of its elements found no place.
 #[derive(Clone, Copy)]
 pub struct Arrivals {
-    pub acknowledged: List<Acknowledged, 100>,
+    pub acknowledged: list::List<Acknowledged, 100>,
     pub left: usize,
 }
 
@@ -34,7 +34,7 @@ impl Arrivals {
         ensures { (listed result.acknowledged ≡ []) × (result.left ≡ 0) }
     {
         Arrivals {
-            acknowledged: List::empty(Acknowledged {
+            acknowledged: list::List::empty(Acknowledged {
                 number: 0,
                 instance: [0; 8],
             }),
@@ -43,7 +43,7 @@ impl Arrivals {
     }
 
     fn note(&mut self, verdict: Verdict, acknowledged: Acknowledged)
-        requires { (length (listed self.old.acknowledged) < 100) × (self.old.left < 100) }
+        requires { HasPlace self.old }
         ensures acknowledged { listed self.new.acknowledged ≡ noted verdict acknowledged (listed self.old.acknowledged) }
         ensures left { self.new.left ≡ self.old.left + left_by verdict }
     {
@@ -58,6 +58,7 @@ impl Arrivals {
 }
 
 // Groups that are longer than those of a packet are passed over.
+// Stays: node, rows and line are parameters of each call, as at `arrive`.
 pub fn arrive_all<K: Kind>(
     node: &mut Node,
     elements: &mut [K],
@@ -105,7 +106,7 @@ fn arrive_group<K: Kind>(
     content: &[u8],
     arrivals: &mut Arrivals,
 )
-    requires { (16 ≤ length content.now) × ((length (listed arrivals.old.acknowledged) < 100) × (arrivals.old.left < 100)) }
+    requires { (16 ≤ length content.now) × HasPlace arrivals.old }
     ensures world { world node.new elements.new wanted.now ≡ arrived K.model line (arrival_of K.model bundle.now.node.bytes bundle.now.group.bytes (element_at content.now)) (world node.old elements.old wanted.now) }
     ensures acknowledged { listed arrivals.new.acknowledged ≡ noted (verdict_on K.model (arrival_of K.model bundle.now.node.bytes bundle.now.group.bytes (element_at content.now)) (world node.old elements.old wanted.now)) (acknowledgement_of (element_at content.now)) (listed arrivals.old.acknowledged) }
     ensures left { arrivals.new.left ≡ arrivals.old.left + left_by (verdict_on K.model (arrival_of K.model bundle.now.node.bytes bundle.now.group.bytes (element_at content.now)) (world node.old elements.old wanted.now)) }
@@ -124,7 +125,7 @@ fn arrive_next<K: Kind>(
     arrival: &bundle::Element<'_>,
     arrivals: &mut Arrivals,
 )
-    requires { (length (listed arrivals.old.acknowledged) < 100) × (arrivals.old.left < 100) }
+    requires { HasPlace arrivals.old }
     ensures world { world node.new elements.new wanted.now ≡ arrived K.model line (arrival_of K.model bundle.now.node.bytes bundle.now.group.bytes (element_view arrival.now)) (world node.old elements.old wanted.now) }
     ensures acknowledged { listed arrivals.new.acknowledged ≡ noted (verdict_on K.model (arrival_of K.model bundle.now.node.bytes bundle.now.group.bytes (element_view arrival.now)) (world node.old elements.old wanted.now)) (acknowledgement_of (element_view arrival.now)) (listed arrivals.old.acknowledged) }
     ensures left { arrivals.new.left ≡ arrivals.old.left + left_by (verdict_on K.model (arrival_of K.model bundle.now.node.bytes bundle.now.group.bytes (element_view arrival.now)) (world node.old elements.old wanted.now)) }

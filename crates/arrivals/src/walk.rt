@@ -10,6 +10,9 @@ use packets::group::Groups;
 use packets::ids::NodeId;
 use packets::layout::PacketType;
 
+// What a group begins with: type, length and node ID.
+const UP_TO_NODE: usize = 26;
+
 // The entries left of the present group, and the groups behind it.
 #[derive(Drop)]
 pub(crate) struct Walk<'a, E> {
@@ -29,11 +32,12 @@ impl<'a, E: Entry> Walk<'a, E> {
             node: NodeId { bytes: [0; 22] },
             entries: Entries::new(&[]),
             groups: Groups::new(of, groups),
-            skip: of.group_fixed().saturating_sub(26),
+            skip: of.group_fixed().saturating_sub(UP_TO_NODE),
         }
     }
 
     // Into a group, when the one before it is done.
+    // Stays: of a group it needs the node ID and the entries alone; by `Named` and `Described` it is a function for each type.
     fn open(&mut self, content: &'a [u8])
         requires { entries_left E.at E.size self.old.entries ≡ [] }
         ensures entries { under E.at E.size self.new.node (entries_left E.at E.size self.new.entries) ≡ in_group E.at E.size self.old.skip content.now }

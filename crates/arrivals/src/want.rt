@@ -1,17 +1,15 @@
 // Which descriptions are wanted, and the wants that they open.
-ghost use Rattle.std.specs.Prelude.{◌≡◌, not, ◌&&◌, List, [], map, Some, slice_set};
+ghost use Rattle.std.specs.Prelude.{◌≡◌, not, ◌&&◌, List, [], map, drop, Some, slice_set};
 ghost use Rattle.database.specs.Nodes.{with_lines, world};
 ghost use Rattle.exchange.specs.Wanting.{described, described_all, free_places, is_want, is_wanted, lacks_places, needed, needs_for, needs_place, new_want, want_named, wanted_by};
-ghost use Rattle.kinds.specs.Recency.{is_higher};
 ghost use Rattle.lines.specs.Tables.{some_where};
 ghost use Rattle.arrivals.specs.Readings.{naming_view};
-ghost use Rattle.arrivals.specs.Views.{viewed};
+ghost use Rattle.arrivals.specs.Views.{last_needed, viewed};
 
 use crate::marking;
 use crate::naming::Naming;
 use database::node::Node;
 use kinds::kind::Kind;
-use kinds::rank::Rank;
 use kinds::recency::instance_at;
 use lines::marks::RESEND_LIMIT;
 use packets::ids::Name;
@@ -19,12 +17,6 @@ use places::count::SendCount;
 use places::row::put;
 use tables::search::free_in;
 use tables::want::Want;
-
-fn is_higher(rank: Rank) -> bool
-    ensures { result ≡ is_higher rank }
-{
-    matches!(rank, Rank::Higher)
-}
 
 fn is_want(want: &Option<Want>, line: usize, name: &Name) -> bool
     ensures { result ≡ is_want line name.now want.now }
@@ -53,7 +45,7 @@ impl<'a, K: Kind> View<'a, K> {
         ensures { result ≡ is_wanted K.model (viewed self.now) (naming_view naming.now) }
     {
         match self.node.find(&naming.name) {
-            Some(place) => is_higher(naming.instance.rank(&instance_at(self.elements, place))),
+            Some(place) => naming.instance.rank(&instance_at(self.elements, place)).is_higher(),
             None => !naming.instance.is_expired(),
         }
     }
@@ -84,20 +76,29 @@ impl<'a, K: Kind> View<'a, K> {
         self.needs_place(naming) && !self.is_needed(&naming.name, later)
     }
 
+    // These descriptions begin with such a one.
+    fn starts_with_last_needed(&self, namings: &[Naming<K>]) -> bool
+        ensures { result ≡ last_needed K.model self.now namings.now }
+    {
+        match namings.split_first() {
+            Some((naming, later)) => self.is_last_needed(naming, later),
+            None => false,
+        }
+    }
+
+    fn is_last_needed_at(&self, namings: &[Naming<K>], place: usize) -> bool
+        ensures { result ≡ last_needed K.model self.now (drop place namings.now) }
+    {
+        self.starts_with_last_needed(namings.get(place..).unwrap_or_default())
+    }
+
     // The want places that descriptions need: as many as there are names of the needed ones.
     fn count_needed(&self, namings: &[Naming<K>]) -> usize
         ensures { result ≡ needed K.model self.now.line (viewed self.now) (map naming_view namings.now) }
     {
-        // Stays: each description is held against those behind it, which no chain hands over.
-        let mut count = 0;
-        let mut left = namings;
-        while let Some((naming, later)) = left.split_first() {
-            if self.is_last_needed(naming, later) {
-                count += 1;
-            }
-            left = later;
-        }
-        count
+        (0..namings.len())
+            .filter(|place| self.is_last_needed_at(namings, *place))
+            .count()
     }
 }
 
@@ -152,7 +153,7 @@ fn want<K: Kind>(node: &mut Node, elements: &[K], wanted: &mut [K], line: usize,
     }
     match find_named(&node.wants, line, &naming.name) {
         Some(place) => {
-            if is_higher(naming.instance.rank(&instance_at(wanted, place))) {
+            if naming.instance.rank(&instance_at(wanted, place)).is_higher() {
                 want_at(node, wanted, place, line, naming);
             }
         }
@@ -194,7 +195,7 @@ pub(crate) fn describe_each<K: Kind>(
 )
     ensures { world node.new elements.now wanted.new ≡ described_all K.model line (map naming_view namings.now) (world node.old elements.now wanted.old) }
 {
-    for naming in namings.iter() {
+    for naming in namings {
         describe(node, elements, wanted, line, naming);
     }
 }
