@@ -51,6 +51,8 @@ pub fn write_back(bytes: &[u8], buffer: &mut [u8]) -> Result<usize, NotWritten>
     Ok(write(&packet, buffer))
 }
 
+// Stays beside `packet::read`: by its two clauses more `write_back` is proved without a file, so that edits meet its contract
+// (CONTRIBUTING.md, Contracts).
 fn read(bytes: &[u8]) -> Result<Packet<'_>, Fault>
     ensures content { viewed_packet result ≡ decode bytes.now }
     ensures back { IfOk result (λ p. Back bytes.now (view_of p)) }
@@ -200,5 +202,7 @@ fn write_description(group: GroupOpen, buffer: &mut [u8], description: Descripti
         number,
         instance,
     } = description;
-    group.add(buffer, &element_head(element_type, number), &instance).unwrap()
+    group
+        .add(buffer, &element_head(element_type, number), &instance)
+        .unwrap()
 }
