@@ -45,7 +45,10 @@ impl<'a, K: Kind> View<'a, K> {
         ensures { result ≡ is_wanted K.model (viewed self.now) (naming_view naming.now) }
     {
         match self.node.find(&naming.name) {
-            Some(place) => naming.instance.rank(&instance_at(self.elements, place)).is_higher(),
+            Some(place) => {
+                let held = instance_at(self.elements, place);
+                naming.instance.rank(&held).is_higher()
+            }
             None => !naming.instance.is_expired(),
         }
     }
@@ -153,7 +156,8 @@ fn want<K: Kind>(node: &mut Node, elements: &[K], wanted: &mut [K], line: usize,
     }
     match find_named(&node.wants, line, &naming.name) {
         Some(place) => {
-            if naming.instance.rank(&instance_at(wanted, place)).is_higher() {
+            let open = instance_at(wanted, place);
+            if naming.instance.rank(&open).is_higher() {
                 want_at(node, wanted, place, line, naming);
             }
         }

@@ -15,7 +15,11 @@ use writer::states::{GroupOpen, LONGEST, Open};
 const MOST_ENTRIES: usize = 100;
 
 // Nothing is written for more than 100 entries or a short buffer.
-pub fn write_acknowledgement(buffer: &mut [u8], node: NodeId, entries: &[Acknowledged]) -> Option<usize>
+pub fn write_acknowledgement(
+    buffer: &mut [u8],
+    node: NodeId,
+    entries: &[Acknowledged],
+) -> Option<usize>
     ensures written { result ≡ composed_length (few_entries entries.now buffer.old) (acknowledgement_content node entries.now) }
     ensures buffer { buffer.new ≡ composed (few_entries entries.now buffer.old) (acknowledgement_content node entries.now) buffer.old }
 {
