@@ -13,7 +13,7 @@ use Rattle.tables.specs.Searches.{free_place, is_named, place_of}
 use Rattle.calls.specs.declared.originate.Origination.{Origination}
 use Rattle.calls.specs.declared.originate.Succession.{Succession}
 use Rattle.calls.specs.declared.refusal.Refusal.{Refusal}
-use Rattle.calls.specs.Calls.{done, next_at, originated, own_element, own_name, settled_world, succession_from, succession_of}
+use Rattle.calls.specs.Calls.{next_at, originated, own_element, own_name, settled_world, succession_from, succession_of}
 use Rattle.calls.specs.Laws.{EntersOnly, KeepsOnePlace}
 use Rattle.calls.proofs.OnePlaceLaws.{AtOnePlace, entered_here, entry_keeps, free_within, held_nowhere, held_there, held_within, own_same}
 
