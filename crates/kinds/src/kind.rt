@@ -30,7 +30,7 @@ pub trait Kind: Copy {
     fn expired(&self) -> Self
         ensures { result ≡ model.expired self.now };
 
-    // Stays: check number and time come one by one, as the laws speak of them.
+    // Stays: check number and time come one by one, as the form of the kind is fixed (docs/DECISIONS.md, Language forms).
     fn first(check: u16, time: u16) -> Self
         ensures { result ≡ model.first check time };
 
