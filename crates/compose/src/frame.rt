@@ -1,7 +1,7 @@
 // What the four packets share: a packet of a group for each place of a table that holds a record, and steps of writing that
 // are not declined, since there is room for them.
-// Stay parameters, as the writer's steps take them: the buffer, which is lent to each step of a draft (a rule of the project,
-// docs/DECISIONS.md, Language forms), and the pieces first, second and third, slices that are borrowed from four places each.
+// Stays: draft and buffer go to each step, as the writer lends the buffer (docs/DECISIONS.md, Language forms); the pieces first,
+// second and third go as its steps take them, slices of different lifetimes.
 ghost use Rattle.std.specs.Prelude.{◌≡◌, ℕ, ◌+◌, ◌≤◌, List, ◌++◌, length};
 ghost use Rattle.packets.specs.Encodings.{framed, headed};
 ghost use Rattle.writer.specs.Writers.{Appended, HasRoom, begin_bytes, group_bytes, pasted};
