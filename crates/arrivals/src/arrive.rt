@@ -63,10 +63,10 @@ fn judge<K: Kind>(node: &Node, elements: &[K], arrival: &Arrival<'_, K>) -> Verd
 fn rank_at<K: Kind>(elements: &[K], instance: &K, held: Option<usize>) -> Rank
     ensures { result ≡ rank_at K.model elements.now instance.now held }
 {
-    match held {
-        Some(place) => instance.rank(&instance_at(elements, place)),
-        None => Rank::Higher,
-    }
+    held.map_or(
+        Rank::Higher,
+        |place| instance.rank(&instance_at(elements, place)),
+    )
 }
 
 // What comes back under our own ID unexpired enters in its expired form, with an empty body.

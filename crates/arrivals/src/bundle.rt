@@ -111,9 +111,8 @@ fn arrive_group<K: Kind>(
     ensures acknowledged { listed arrivals.new.acknowledged ≡ noted (verdict_on K.model (arrival_of K.model bundle.now.node.bytes bundle.now.group.bytes (element_at content.now)) (world node.old elements.old wanted.now)) (acknowledgement_of (element_at content.now)) (listed arrivals.old.acknowledged) }
     ensures left { arrivals.new.left ≡ arrivals.old.left + left_by (verdict_on K.model (arrival_of K.model bundle.now.node.bytes bundle.now.group.bytes (element_at content.now)) (world node.old elements.old wanted.now)) }
 {
-    if let Some(arrival) = bundle::Element::read(content) {
-        arrive_next(node, elements, wanted, line, bundle, &arrival, arrivals);
-    }
+    let arrival = bundle::Element::read(content).unwrap();
+    arrive_next(node, elements, wanted, line, bundle, &arrival, arrivals);
 }
 
 fn arrive_next<K: Kind>(

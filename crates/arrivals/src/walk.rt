@@ -24,7 +24,7 @@ pub(crate) struct Walk<'a, E> {
 }
 
 impl<'a, E: Entry> Walk<'a, E> {
-    // Before the first group.
+    // Before the first group. Stays: the packet's type comes beside the entry's, as an entry does not know in which packet it stands.
     pub(crate) fn start(of: PacketType, groups: &'a [u8]) -> Walk<'a, E>
         ensures { ahead E.at E.size result ≡ in_groups E.at E.size of groups.now }
     {

@@ -79,7 +79,7 @@ impl<'a, K: Kind> View<'a, K> {
         self.needs_place(naming) && !self.is_needed(&naming.name, later)
     }
 
-    // These descriptions begin with such a one.
+    // These descriptions begin with such a one. Stays a match: tried by `is_some_and`, and the search gives up at its limits.
     fn starts_with_last_needed(&self, namings: &[Naming<K>]) -> bool
         ensures { result ≡ last_needed K.model self.now namings.now }
     {
@@ -129,6 +129,7 @@ pub(crate) fn is_short<K: Kind>(
 }
 
 // A description shows the instance held, or is wanted.
+// Stays: node, rows and line are parameters of each call, as at `arrive`.
 pub fn describe<K: Kind>(
     node: &mut Node,
     elements: &[K],

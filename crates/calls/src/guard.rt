@@ -19,6 +19,7 @@ pub(crate) fn check_rows<K: Kind>(elements: &[K], wants: &[K]) -> Result<(), Ref
     Ok(())
 }
 
+// Stays before the index: each call that names a line declines by it, in its place among the refusals.
 pub(crate) fn check_line(line: usize) -> Result<(), Refusal>
     ensures { result ≡ checked ((no_such_line line ⇒ LineNumber) ∷ []) (Ok tt) }
 {

@@ -14,6 +14,7 @@ pub fn write_request(buffer: &mut [u8], wants: &[Option<Want>], chosen: &[usize]
     ensures written { result ≡ composed_length (few chosen.now buffer.old) (request_content wants.now chosen.now) }
     ensures buffer { buffer.new ≡ composed (few chosen.now buffer.old) (request_content wants.now chosen.now) buffer.old }
 {
+    // Stays here and in the three like it: each guard says a definition of its own (`few`, `few_entries`, `short`).
     if chosen.len() > MOST || buffer.len() < LONGEST {
         return None;
     }

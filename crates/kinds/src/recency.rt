@@ -37,8 +37,5 @@ pub fn successor<K: Kind>(held: Option<K>, check: u16, time: u16) -> Option<K>
 pub fn instance_at<K: Kind>(row: &[K], place: usize) -> K
     ensures { result ≡ instance_at K.model row.now place }
 {
-    match row.get(place) {
-        Some(instance) => *instance,
-        None => K::first(0, 0),
-    }
+    row.get(place).copied().unwrap_or_else(|| K::first(0, 0))
 }

@@ -39,7 +39,8 @@ pub struct Line {
     pub summary: OwnSummary,
     // The retransmission list: an entry or a call of the neighbour adds, its showing removes.
     pub owed: PlaceSet,
-    // When each owed element was sent. Stays apart from `owed`: the definition `cleared_line` keeps the counts and none of the marks.
+    // When each owed element was sent.
+    // Stays apart from `owed`: the definition `cleared_line` keeps the counts and none of the marks.
     pub counts: [SendCount; 64],
     // The summary list: the end of negotiation adds, our next summary and an entry remove.
     pub to_tell: PlaceSet,

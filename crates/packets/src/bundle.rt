@@ -4,6 +4,7 @@ ghost use Rattle.kinds.specs.BigEndian.{write16, write32};
 ghost use Rattle.packets.specs.Bundles.{bundle_of, element_of, viewed_bundle, viewed_element};
 
 use crate::ids::{NodeId, PeerGroupId};
+use crate::layout::head;
 
 #[derive(Clone, Copy)]
 pub struct Bundle<'a> {
@@ -40,6 +41,7 @@ impl<'a> Element<'a> {
     pub fn read(content: &'a [u8]) -> Option<Element<'a>>
         ensures { viewed_element result ≡ element_of content.now }
     {
+        // Stays taken apart here, in `Description::split` and in `Summary::read`: each names the eight bytes and has an edit of its own.
         let ([k0, k1, _, _, n0, n1, n2, n3], rest) = content.split_first_chunk::<8>()?;
         let (instance, body) = rest.split_first_chunk::<8>()?;
         Some(Element {
@@ -55,7 +57,5 @@ impl<'a> Element<'a> {
 pub fn element_head(element_type: u16, number: u32) -> [u8; 8]
     ensures { result ≡ write16 element_type (0 ∷ 0 ∷ write32 number []) }
 {
-    let [k0, k1] = element_type.to_be_bytes();
-    let [n0, n1, n2, n3] = number.to_be_bytes();
-    [k0, k1, 0, 0, n0, n1, n2, n3]
+    head(element_type, number)
 }

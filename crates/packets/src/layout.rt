@@ -1,5 +1,6 @@
 // The packet types, with the numbers and sizes of their layouts.
-ghost use Rattle.std.specs.Prelude.{◌≡◌};
+ghost use Rattle.std.specs.Prelude.{◌≡◌, [], ◌∷◌};
+ghost use Rattle.kinds.specs.BigEndian.{write16, write32};
 ghost use Rattle.std.specs.Option.{ok_or};
 ghost use Rattle.packets.specs.Layouts.{group_fixed_of, group_number_of, number_of, type_of, unknown_type};
 
@@ -66,4 +67,13 @@ impl PacketType {
             PacketType::Acknowledgement | PacketType::Request => 28,
         }
     }
+}
+
+// A number of two bytes, two reserved bytes, and a number of four.
+pub(crate) fn head(first: u16, second: u32) -> [u8; 8]
+    ensures { result ≡ write16 first (0 ∷ 0 ∷ write32 second []) }
+{
+    let [a0, a1] = first.to_be_bytes();
+    let [b0, b1, b2, b3] = second.to_be_bytes();
+    [a0, a1, 0, 0, b0, b1, b2, b3]
 }

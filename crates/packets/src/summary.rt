@@ -6,6 +6,7 @@ ghost use Rattle.packets.specs.Summaries.{described_of, description_at, summary_
 
 use crate::entry::Entry;
 use crate::ids::{NodeId, PeerGroupId};
+use crate::layout::head;
 
 pub const INITIALIZE: u16 = 0x8000;
 
@@ -53,9 +54,7 @@ impl SummaryHead {
     pub fn bytes(self) -> [u8; 8]
         ensures { result ≡ write16 self.flags (0 ∷ 0 ∷ write32 self.ds_number []) }
     {
-        let [f0, f1] = self.flags.to_be_bytes();
-        let [d0, d1, d2, d3] = self.ds_number.to_be_bytes();
-        [f0, f1, 0, 0, d0, d1, d2, d3]
+        head(self.flags, self.ds_number)
     }
 }
 

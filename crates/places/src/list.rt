@@ -9,7 +9,7 @@ pub struct List<T, const N: usize> {
     ghost within: { count ≤ N },
 }
 
-// Stays by hand: the check derives no `Clone` for a struct with a ghost field.
+// Stays by hand: tried, and the check derives no `Clone` here (derive-over-ghost-field).
 impl<T: Copy, const N: usize> Copy for List<T, N> {}
 
 impl<T: Copy, const N: usize> Clone for List<T, N> {

@@ -17,7 +17,7 @@ fn is_at_or_below(rank: Rank) -> bool
     !rank.is_higher()
 }
 
-// Stays: name and instance come one by one, as callers have them in records of different kinds.
+// Stays: name and instance come one by one, as the record that has both, an arrival, stands in a crate above.
 // The want closes where it is one of the name, at or below the instance that came.
 fn close_one<K: Kind>(want: &mut Option<Want>, wanted: &K, name: &Name, instance: &K)
     ensures { want.new ≡ closed_want K.model name.now instance.now wanted.now want.old }

@@ -134,8 +134,8 @@ fn named<S: Style, E: Entry, F: Fn(E) -> io::Result<()>>(
 // The packet as it is written back, with its reserved bytes zero.
 fn written<S: Style>(rt: &HostRuntime, bytes: &[u8]) -> io::Result<()> {
     let mut buffer = [0; 2048];
-    let length = write_back(bytes, &mut buffer).unwrap_or(0);
-    match buffer.get(..length) {
+    let length = write_back(bytes, &mut buffer).ok();
+    match length.and_then(|length| buffer.get(..length)) {
         Some(back) => S::written(rt, bytes, back),
         None => Ok(()),
     }

@@ -30,10 +30,7 @@ impl Outcome {
 
     // The packet written, without bytes where there is none.
     pub(crate) fn packet(&self) -> &[u8] {
-        match &self.written {
-            Some(bytes) => bytes.as_slice(),
-            None => &[],
-        }
+        self.written.as_deref().unwrap_or_default()
     }
 }
 

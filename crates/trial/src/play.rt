@@ -10,7 +10,7 @@ use packets::ids::{NodeId, PeerGroupId};
 #[derive(Drop)]
 pub(crate) struct Play<K: Kind> {
     pub node: Node,
-    // Stay two arrays: the rows of two tables, lent one by one.
+    // Stays two arrays: the rows of two tables, lent one by one.
     pub elements: [K; 64],
     wants: [K; 64],
 }

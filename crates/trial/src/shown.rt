@@ -5,7 +5,7 @@ use packets::group::GroupFault;
 use packets::header::HeaderFault;
 use packets::layout::PacketType;
 use packets::packet::Fault;
-use packets::summary::{INITIALIZE, MASTER, MORE};
+use packets::summary::{INITIALIZE, MASTER, MORE, SummaryHead};
 use std::fmt;
 
 #[derive(Clone, Copy)]
@@ -77,18 +77,17 @@ impl fmt::Display for Shown<Fault> {
 
 // A summary's flags: their digits, and the names of those that are set.
 #[derive(Clone, Copy)]
-pub(crate) struct Flags(pub u16);
+pub(crate) struct Flags(pub SummaryHead);
 
 impl fmt::Display for Flags {
     fn fmt<W: fmt::Write>(&self, f: &mut fmt::Formatter<W>) -> fmt::Result {
-        let flags = self.0;
-        write!(f, "{flags:04x}:")?;
+        write!(f, "{:04x}:", self.0.flags)?;
         for (flag, name) in [
             (INITIALIZE, "Initialize"),
             (MORE, "More"),
             (MASTER, "Master"),
         ] {
-            if flags & flag != 0 {
+            if self.0.has(flag) {
                 write!(f, " {name}")?;
             }
         }

@@ -94,11 +94,7 @@ impl Style for Words {
     }
 
     fn summary(rt: &HostRuntime, head: SummaryHead) -> io::Result<()> {
-        println!(rt;
-            "  DS number {}, flags {}",
-            head.ds_number,
-            Flags(head.flags)
-        )
+        println!(rt; "  DS number {}, flags {}", head.ds_number, Flags(head))
     }
 
     fn described(rt: &HostRuntime, described: &Described<'_>) -> io::Result<()> {

@@ -54,9 +54,8 @@ fn lines(rt: &HostRuntime, node: &Node) -> io::Result<()> {
 }
 
 fn written(rt: &HostRuntime, outcome: &Outcome) -> io::Result<()> {
-    if outcome.written.is_none() {
-        return Ok(());
+    match &outcome.written {
+        Some(packet) => println!(rt; "      wrote {}", Hex(packet.as_slice())),
+        None => Ok(()),
     }
-    let packet = Hex(outcome.packet());
-    println!(rt; "      wrote {packet}")
 }

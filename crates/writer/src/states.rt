@@ -144,7 +144,7 @@ impl GroupOpen {
     }
 }
 
-// Stays: the pieces come one by one, as the borrow checker takes no array of slices that are lent for different lifetimes.
+// Stays: the pieces come one by one; tried, and in `group` the borrow checker takes no array of slices of different lifetimes.
 // Whether some bytes and three pieces can be added without passing the longest packet or the buffer's end.
 fn fits(len: u16, buffer: &[u8], more: usize, first: &[u8], second: &[u8], third: &[u8]) -> bool
     requires { more ≤ 8 }

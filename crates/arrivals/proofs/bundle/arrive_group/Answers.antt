@@ -1,5 +1,5 @@
-use Rattle.std.proofs.Common.{◌≡◌, ◌+◌, ap, ◌∙◌}
-use Rattle.packets.specs.Bundles.{element_at}
+use Rattle.std.proofs.Common.{◌≡◌, ◌+◌, sym, ap, ◌∙◌}
+use Rattle.packets.specs.Bundles.{element_at, viewed_element}
 use Rattle.database.specs.Nodes.{world}
 use Rattle.exchange.specs.Arrivals.{acknowledgement_of, arrival_of, arrived, left_by, verdict_on}
 use Rattle.arrivals.specs.Bundles.{element_view, noted}
@@ -7,12 +7,12 @@ use Rattle.places.specs.Lists.{listed}
 use Rattle.packets.proofs.EntryLaws.{past_none}
 use Rattle.arrivals.proofs.bundle.arrive_group.Goals as goal
 
-pub returns-in-Some : goal.returns-in-Some
-returns-in-Some g c =
+pub returns : goal.returns
+returns g c =
     let ops = g.K.Kind.model in
     let b = c.args.bundle.now in
     let w = world c.args.node.now c.args.elements.now c.args.wanted.now in
-    let e : element_view c.in-Some.arrival ≡ element_at c.args.content.now = (past_none _ _ _ c.in-Some.ensures).1 in
+    let e : element_view c.unwrap-arrival.result ≡ element_at c.args.content.now = (past_none _ _ _ (ap viewed_element (sym c.unwrap-arrival.ensures) ∙ c.read.ensures)).1 in
     let step = c.arrive_next.ensures in
     record {
       world = step.world ∙ ap (λ x. arrived ops c.args.line (arrival_of ops b.node.bytes b.group.bytes x) w) e;
