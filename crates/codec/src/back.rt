@@ -51,8 +51,8 @@ pub fn write_back(bytes: &[u8], buffer: &mut [u8]) -> Result<usize, NotWritten>
     Ok(write(&packet, buffer))
 }
 
-// Stays beside `packet::read`: by its two clauses more `write_back` is proved without a file, so that edits meet its contract
-// (CONTRIBUTING.md, Contracts).
+// Stays beside `packet::read`: tried without, and `write_back` needs a proof file, which its edits would meet (CONTRIBUTING.md,
+// Contracts).
 fn read(bytes: &[u8]) -> Result<Packet<'_>, Fault>
     ensures content { viewed_packet result ≡ decode bytes.now }
     ensures back { IfOk result (λ p. Back bytes.now (view_of p)) }
@@ -160,9 +160,8 @@ fn write_group(draft: Open, buffer: &mut [u8], of: PacketType, content: &[u8]) -
 }
 
 // A group of three pieces, with descriptions behind them.
-// Stays: the pieces are parameters one by one, as the writer's step takes them.
 // Stays beside the like steps of compose: made once they would be public functions of writer with a premise, and a public function has
-// none (CONTRIBUTING.md, Contracts).
+// none (CONTRIBUTING.md, Contracts). The pieces are parameters as the writer's step takes them.
 fn write_pieces(
     draft: Open,
     buffer: &mut [u8],

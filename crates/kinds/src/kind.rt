@@ -30,7 +30,7 @@ pub trait Kind: Copy {
     fn expired(&self) -> Self
         ensures { result ≡ model.expired self.now };
 
-    // Stays: check number and time come one by one, as the form of the kind is fixed (docs/DECISIONS.md, Language forms).
+    // Stays: check number and time come one by one, as laws and model take them (docs/DECISIONS.md, Language forms: a trait with laws).
     fn first(check: u16, time: u16) -> Self
         ensures { result ≡ model.first check time };
 

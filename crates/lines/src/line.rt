@@ -20,7 +20,7 @@ pub enum Role {
 }
 
 // Our own summary under the line's DS number.
-// Stays: our summary carries More whether it was written or not, so an Option would have each reader say what none stands for.
+// Stays: a summary is sent with `more` as it stands, written or not; an Option would need a match for that, and for the initial one.
 #[derive(Clone, Copy)]
 pub struct OwnSummary {
     pub written: bool,

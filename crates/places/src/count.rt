@@ -9,7 +9,7 @@ pub struct SendCount {
 
 impl SendCount {
     // Of a new thing, which is due at once.
-    // Stays: a rule of the project (docs/DECISIONS.md, The limit of a send count is an argument).
+    // Stays: as a const parameter the one limit would stand in the type of each count and line (docs/DECISIONS.md).
     pub fn fresh(limit: u8) -> SendCount
         ensures { result ≡ fresh_count limit }
     {

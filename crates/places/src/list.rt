@@ -68,7 +68,7 @@ impl List<usize, 64> {
     }
 
     // Adds a place that passes, as long as there are fewer than the limit and than 64.
-    // Stays with the test's answer as an argument: its clause has it, and the one walk of exchange adds by one call.
+    // Stays: `passes` is in its clause (`kept`), and an `if` at its one caller is no plainer.
     pub fn keep(&mut self, place: usize, passes: bool, limit: usize)
         ensures { listed self.new ≡ kept (listed self.old) place passes limit }
     {

@@ -62,10 +62,7 @@ impl BodyStore {
     pub fn body(&self, place: usize) -> &[u8]
         ensures { result.now ≡ body_at self.now place }
     {
-        match self.bodies.get(place) {
-            Some(body) => body.bytes(),
-            None => &[],
-        }
+        self.bodies.get(place).map_or(&[], |body| body.bytes())
     }
 
     // The only function that writes bytes. What lies behind the body stays; a body above 256 bytes is not taken.

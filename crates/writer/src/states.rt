@@ -144,8 +144,8 @@ impl GroupOpen {
     }
 }
 
-// Stays: the pieces come one by one; tried, and in `group` the borrow checker takes no array of slices of different lifetimes.
 // Whether some bytes and three pieces can be added without passing the longest packet or the buffer's end.
+// Stays: the pieces come one by one; tried as an array, and in `group` the borrow checker takes none of slices of three lifetimes.
 fn fits(len: u16, buffer: &[u8], more: usize, first: &[u8], second: &[u8], third: &[u8]) -> bool
     requires { more ≤ 8 }
     ensures { result ≡ fits_in len (length buffer.now) (more + (length first.now + (length second.now + length third.now))) }
