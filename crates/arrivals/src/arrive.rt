@@ -19,7 +19,7 @@ use tables::wants;
 
 // Comes on a line, and may show there what is held, or call for it.
 // Stays: the node and the rows are parameters of each call (a rule of the project, docs/DECISIONS.md, Language forms);
-// element, instance and body come one by one, as the public signature stands.
+// element, instance and body come one by one: tried as one `Arrival`, and the borrow checker does not cover the function.
 pub fn arrive<K: Kind>(
     node: &mut Node,
     elements: &mut [K],

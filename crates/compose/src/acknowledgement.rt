@@ -23,6 +23,7 @@ pub fn write_acknowledgement(
     ensures written { result ≡ composed_length (few_entries entries.now buffer.old) (acknowledgement_content node entries.now) }
     ensures buffer { buffer.new ≡ composed (few_entries entries.now buffer.old) (acknowledgement_content node entries.now) buffer.old }
 {
+    // Stays beside `are_few`: entries have a limit and a definition of their own (`few_entries`), and so has a bundle (`short`).
     if entries.len() > MOST_ENTRIES || buffer.len() < LONGEST {
         return None;
     }

@@ -2,17 +2,27 @@
 // are not declined, since there is room for them.
 // Stays: draft and buffer go to each step, as the writer lends the buffer (docs/DECISIONS.md, Language forms); the pieces first,
 // second and third go as its steps take them, slices of different lifetimes.
-ghost use Rattle.std.specs.Prelude.{◌≡◌, ℕ, ◌+◌, ◌≤◌, List, ◌++◌, length};
+ghost use Rattle.std.specs.Prelude.{◌≡◌, ℕ, ◌+◌, ◌≤◌, true, List, ◌++◌, length};
 ghost use Rattle.packets.specs.Encodings.{framed, headed};
 ghost use Rattle.writer.specs.Writers.{Appended, HasRoom, begin_bytes, group_bytes, pasted};
-ghost use Rattle.compose.specs.Composed.{needed};
+ghost use Rattle.compose.specs.Composed.{few, needed};
 ghost use Rattle.compose.specs.Framed.{groups_bytes};
 
+use exchange::select::MOST;
 use packets::layout::PacketType;
-use writer::states::{GroupOpen, Open};
+use writer::states::{GroupOpen, LONGEST, Open};
 
 // Newest and oldest version of what we write.
 const VERSION: u8 = 1;
+
+// A summary or a request of these places fits, into a buffer for the longest packet.
+pub(crate) fn are_few(chosen: &[usize], buffer: &[u8]) -> bool
+    ensures fits { result ≡ few chosen.now buffer.now }
+    ensures places { result ≡ true → length chosen.now ≤ 32 }
+    ensures room { result ≡ true → 2048 ≤ length buffer.now }
+{
+    chosen.len() <= MOST && buffer.len() >= LONGEST
+}
 
 // How the record at a place is written: as one group, which takes at most so many bytes.
 pub(crate) trait WriteGroup {

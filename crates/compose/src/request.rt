@@ -3,19 +3,17 @@ ghost use Rattle.std.specs.Prelude.{◌≡◌};
 ghost use Rattle.compose.specs.Composed.{composed, composed_length, few, request_content};
 ghost use Rattle.compose.specs.Framed.{request_group};
 
-use crate::frame::{WriteGroup, write_packet, write_pieces};
-use exchange::select::MOST;
+use crate::frame::{WriteGroup, are_few, write_packet, write_pieces};
 use packets::layout::PacketType;
 use tables::want::Want;
-use writer::states::{LONGEST, Open};
+use writer::states::Open;
 
 // A place that holds no want is passed over. Nothing is written for more than 32 places or a short buffer.
 pub fn write_request(buffer: &mut [u8], wants: &[Option<Want>], chosen: &[usize]) -> Option<usize>
     ensures written { result ≡ composed_length (few chosen.now buffer.old) (request_content wants.now chosen.now) }
     ensures buffer { buffer.new ≡ composed (few chosen.now buffer.old) (request_content wants.now chosen.now) buffer.old }
 {
-    // Stays here and in the three like it: each guard says a definition of its own (`few`, `few_entries`, `short`).
-    if chosen.len() > MOST || buffer.len() < LONGEST {
+    if !are_few(chosen, buffer) {
         return None;
     }
     Some(write_packet(

@@ -6,15 +6,14 @@ ghost use Rattle.writer.specs.Writers.{Appended, HasRoom, pasted};
 ghost use Rattle.compose.specs.Composed.{composed, composed_length, few, summary_content};
 ghost use Rattle.compose.specs.Framed.{described_group, description_group};
 
-use crate::frame::{WriteGroup, add_entry, open_group, write_packet};
-use exchange::select::MOST;
+use crate::frame::{WriteGroup, add_entry, are_few, open_group, write_packet};
 use kinds::kind::Kind;
 use kinds::recency::instance_at;
 use packets::bundle::element_head;
 use packets::layout::PacketType;
 use packets::summary::SummaryHead;
 use tables::element::Element;
-use writer::states::{LONGEST, Open};
+use writer::states::Open;
 
 // A place that holds no element is passed over. Nothing is written for more than 32 places or a short buffer.
 pub fn write_summary<K: Kind>(
@@ -27,7 +26,7 @@ pub fn write_summary<K: Kind>(
     ensures written { result ≡ composed_length (few told.now buffer.old) (summary_content K.model head.flags head.ds_number places.now elements.now told.now) }
     ensures buffer { buffer.new ≡ composed (few told.now buffer.old) (summary_content K.model head.flags head.ds_number places.now elements.now told.now) buffer.old }
 {
-    if told.len() > MOST || buffer.len() < LONGEST {
+    if !are_few(told, buffer) {
         return None;
     }
     Some(write_packet(
