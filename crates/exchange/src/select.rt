@@ -15,7 +15,8 @@ use tables::want::Want;
 // A summary or a request names no more.
 pub const MOST: usize = 32;
 
-// The first 32 held places that pass. Stays a walk over all places with `keep`: `take` would need the same list and a count of its own.
+// The first 32 held places that pass.
+// Stays a walk over all places with `keep`: `take` would need the same list and a count of its own.
 fn first_places<T: Copy, F: Fn(usize, &T) -> bool>(table: &[Option<T>], passes: F) -> PlaceList
     requires { F.IsAlwaysCallable passes }
     ensures { (f : ℕ → T → Bool) → ((p : _) (x : _) (b : _) → F.post passes p x b → b ≡ f p x.now) → listed result ≡ first_places f table.now }

@@ -54,6 +54,7 @@ fn remove_one(want: &mut Option<Want>, line: usize)
     }
 }
 
+// Stays a walk of one statement, as those of `lines::marks`.
 pub fn remove_wants(wants: &mut [Option<Want>], line: usize)
     ensures wants { wants.new ≡ removed_wants line wants.old }
     ensures none { NoneOf line wants.new }
@@ -71,6 +72,7 @@ fn raise_one(want: &mut Option<Want>)
     }
 }
 
+// Stays a walk of one statement, as those of `lines::marks`.
 pub fn raise_wants(wants: &mut [Option<Want>])
     ensures { wants.new ≡ map second_want wants.old }
 {

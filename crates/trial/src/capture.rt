@@ -112,6 +112,7 @@ fn summary<S: Style>(rt: &HostRuntime, summary: &Summary<'_>) -> io::Result<()> 
 }
 
 // The groups of an acknowledgement or of a request, each of one node.
+// Stays: the packet's type comes beside the entry's, as an entry does not know in which packet it stands.
 fn named<S: Style, E: Entry, F: Fn(E) -> io::Result<()>>(
     rt: &HostRuntime,
     of: PacketType,
