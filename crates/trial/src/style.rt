@@ -6,7 +6,7 @@ use packets::bundle::{Bundle, Element};
 use packets::ids::NodeId;
 use packets::packet::{Fault, Packet};
 use packets::summary::{Described, Description, SummaryHead};
-use std::io;
+use std::{fmt, io};
 
 pub(crate) trait Style {
     fn found(rt: &HostRuntime, line: usize, length: usize) -> io::Result<()>;
@@ -35,6 +35,23 @@ pub(crate) trait Style {
 
     // The packet as it was read, and as it is written back.
     fn written(rt: &HostRuntime, bytes: &[u8], back: &[u8]) -> io::Result<()>;
+}
+
+// An element's body, or what is said where it has no bytes; displayed, so that an element is one write.
+#[derive(Clone, Copy)]
+struct Body<'a> {
+    bytes: &'a [u8],
+    before: &'static str,
+    none: &'static str,
+}
+
+impl fmt::Display for Body<'_> {
+    fn fmt<W: fmt::Write>(&self, f: &mut fmt::Formatter<W>) -> fmt::Result {
+        if self.bytes.is_empty() {
+            return f.write_str(self.none);
+        }
+        write!(f, "{}{}", self.before, Hex(self.bytes))
+    }
 }
 
 pub(crate) struct Words;
@@ -69,16 +86,17 @@ impl Style for Words {
     }
 
     fn element(rt: &HostRuntime, element: &Element<'_>) -> io::Result<()> {
-        print!(rt;
-            "    element {}, type {}, instance {}, ",
+        println!(rt;
+            "    element {}, type {}, instance {}, {}",
             element.number,
             element.element_type,
-            Hex(&element.instance)
-        )?;
-        if element.body.is_empty() {
-            return rt.println("no body");
-        }
-        println!(rt; "body {}", Hex(element.body))
+            Hex(&element.instance),
+            Body {
+                bytes: element.body,
+                before: "body ",
+                none: "no body",
+            }
+        )
     }
 
     fn named(rt: &HostRuntime, node: &NodeId) -> io::Result<()> {
@@ -156,15 +174,16 @@ impl Style for Plain {
 
     fn element(rt: &HostRuntime, element: &Element<'_>) -> io::Result<()> {
         print!(rt;
-            " element {} {} {} ",
+            " element {} {} {} {}",
             element.element_type,
             element.number,
-            Hex(&element.instance)
-        )?;
-        if element.body.is_empty() {
-            return rt.print("-");
-        }
-        print!(rt; "{}", Hex(element.body))
+            Hex(&element.instance),
+            Body {
+                bytes: element.body,
+                before: "",
+                none: "-",
+            }
+        )
     }
 
     fn named(rt: &HostRuntime, node: &NodeId) -> io::Result<()> {
