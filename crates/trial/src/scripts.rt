@@ -23,6 +23,8 @@ pub(crate) trait Layout {
     ) -> io::Result<()>;
 }
 
+// Not inlined: a function pays at entry for all its locals, and the other tasks need no node.
+#[inline(never)]
 pub(crate) fn play<L: Layout>(rt: &HostRuntime, text: &str) -> anyhow::Result<()> {
     let script = script::read(rt, text)?;
     let steps = script.steps.as_slice();
