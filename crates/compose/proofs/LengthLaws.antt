@@ -1,23 +1,22 @@
--- The sum of what places take, as far as a number reaches. Assumes nothing.
-use Rattle.std.proofs.Common.{◌≡◌, ℕ, ◌+◌, ◌^◌, ◌-◌, min, Bool, true, false, leb, List, [], ◌∷◌, refl, sym, arith}
-use Rattle.std.proofs.lemmas.Bool.{le-leb, lt-leb, leb-true, leb-false}
-use Rattle.std.specs.List.{fold}
+-- The sum of what places take, added up one by one. Assumes nothing.
+use Rattle.std.proofs.Common.{◌≡◌, ℕ, ◌+◌, ◌<◌, ◌≤◌, true, false, leb, List, length, get_or, drop, sym, arith}
+use Rattle.std.proofs.lemmas.List.{at_drop_more, at_drop_all}
+use Rattle.std.proofs.lemmas.Bool.{le-leb, lt-leb}
 use Rattle.compose.specs.Composed.{needed}
 
-abbrev pub add_within : (ℕ → ℕ) → ℕ → ℕ → ℕ
-add_within most n p = min (n + most p) (2 ^ 64 - 1)
+module _ (most : ℕ → ℕ) (ps : List ℕ) (i len whole : ℕ) (left : len + needed most (drop i ps) ≡ whole) where
+  -- one place more
+  pub sum_more : (end : ℕ) → i < length ps → end ≡ len + most (get_or ps i 0) → end + needed most (drop (i + 1) ps) ≡ whole
+  sum_more end lt e =
+      let n : needed most (drop i ps) ≡ most (get_or ps i 0) + needed most (drop (i + 1) ps) = at_drop_more (needed most) ps i 0 lt in
+      omega arith
 
-fold_sum : (most : ℕ → ℕ) (n : ℕ) (ps : List ℕ) → min (fold (add_within most) n ps) 2049 ≡ min (n + needed most ps) 2049
-fold_sum most n [] = omega arith
-fold_sum most n (p ∷ ps) = let h = fold_sum most (add_within most n p) ps in omega (arith, h)
+  -- it is too much already
+  pub sum_over : (end : ℕ) → i < length ps → end ≡ len + most (get_or ps i 0) → 2048 < end → false ≡ leb whole 2048
+  sum_over end lt e over = let s = sum_more end lt e in sym (lt-leb whole 2048 (omega arith))
 
--- either sum passes no packet's length where the other does not
-pub fold_short : (most : ℕ → ℕ) (n : ℕ) (ps : List ℕ) (sum : ℕ) → sum ≡ fold (add_within most) n ps → leb sum 2048 ≡ leb (n + needed most ps) 2048
-fold_short most n ps sum e = same sum (n + needed most ps) (omega (arith, e, fold_sum most n ps))
-  where
-    same : (a b : ℕ) → min a 2049 ≡ min b 2049 → leb a 2048 ≡ leb b 2048
-    same a b e = by (leb a 2048) refl
-      where
-        by : (t : Bool) → leb a 2048 ≡ t → t ≡ leb b 2048
-        by true h = sym (le-leb b 2048 (let l = leb-true a 2048 h in omega arith))
-        by false h = sym (lt-leb b 2048 (let l = leb-false a 2048 h in omega arith))
+  -- no place is left
+  pub sum_all : length ps ≤ i → len ≤ 2048 → true ≡ leb whole 2048
+  sum_all le short =
+      let n : needed most (drop i ps) ≡ 0 = at_drop_all (needed most) ps i le in
+      sym (le-leb whole 2048 (omega arith))

@@ -1,5 +1,6 @@
 // A summary: a group for each element that is told, with the one description.
-ghost use Rattle.std.specs.Prelude.{◌≡◌, ◌+◌, ◌≤◌, ◌∷◌, ◌++◌, length};
+ghost use Rattle.std.specs.Prelude.{◌≡◌, ◌+◌, ◌≤◌, [], ◌∷◌, ◌++◌, length};
+ghost use Rattle.kinds.specs.BigEndian.{write16, write32};
 ghost use Rattle.packets.specs.declared.layout.PacketType.TheVariants.{Summary};
 ghost use Rattle.packets.specs.Encodings.{framed};
 ghost use Rattle.writer.specs.Writers.{Appended, HasRoom, pasted};
@@ -64,19 +65,21 @@ fn write_description(draft: Open, buffer: &mut [u8], element: Element, instance:
     ensures written { Appended draft.len (described_group element instance) buffer.old result.len buffer.new }
     ensures short { result.len ≤ draft.len + 60 }
 {
-    let Element {
-        name,
-        group,
-        element_type,
-    } = element;
     write_group(
         draft,
         buffer,
-        &name.node.bytes,
-        &group.bytes,
-        &element_head(element_type, name.number),
+        &element.name.node.bytes,
+        &element.group.bytes,
+        &head(&element),
         &instance,
     )
+}
+
+// A step of its own, as that of a bundle.
+fn head(element: &Element) -> [u8; 8]
+    ensures { result ≡ write16 element.now.element_type (0 ∷ 0 ∷ write32 element.now.name.number []) }
+{
+    element_head(element.element_type, element.name.number)
 }
 
 // A group of one entry, which comes in two pieces.

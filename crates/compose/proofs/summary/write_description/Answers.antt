@@ -6,5 +6,5 @@ use Rattle.compose.proofs.summary.write_description.Goals as goal
 pub returns-clause-written : goal.returns-clause-written
 returns-clause-written c =
     subst (λ bs. Appended c.args.draft.len bs c.args.buffer.now c.write_group.result.len c.write_group.new.buffer)
-    (description_bytes_are c.args.element c.args.instance _ c.element_head.ensures)
+    (description_bytes_are c.args.element c.args.instance _ c.head.ensures)
     c.write_group.ensures.written
