@@ -52,7 +52,7 @@ module _ {I : Type 0} (ops : Operations I) (w : World I) (s : Origination) where
       ]
 
   -- names at one place, and a row that changes only where the name then is
-  abbrev Kept : World I → Type 0
+  abbrev pub Kept : World I → Type 0
   Kept after = KeepsOnePlace w.node after.node × EntersOnly ops name w (world after.node after.elements w.wants)
 
   -- whatever the succession, they are kept
@@ -61,11 +61,11 @@ module _ {I : Type 0} (ops : Operations I) (w : World I) (s : Origination) where
   kept_by (Err r) f = (λ one. one, λ q. inl refl)
 
   -- the succession that is looked for
-  abbrev outcome : Result (Succession I) Refusal
+  abbrev pub outcome : Result (Succession I) Refusal
   outcome = succession_of ops w.node w.elements name s.check s.time
 
   -- what an origination leaves, if no reason before it applies
-  originated_keeps : Kept (originated ops w s outcome)
+  pub originated_keeps : Kept (originated ops w s outcome)
   originated_keeps = kept_by outcome (succeeds ops w.node.places name w.elements s.check s.time (place_of w.node.places name) (free_place w.node.places) refl refl)
 
   -- an instance that enters and a node that settles keep them

@@ -90,11 +90,11 @@ module _ {I : Type 0} (ops : Operations I) (w : World I) where
   second_keeps = fewer_keep w.node.places after.node.places fewer
 
   -- the laws of a second, of the node and the row that are left
-  abbrev Passed : World I → Type 0
+  abbrev pub Passed : World I → Type 0
   Passed u = KeepsOnePlace w.node u.node × Drops ops w (world u.node u.elements w.wants) × Ages ops w (world u.node u.elements w.wants)
 
   -- a second keeps them
-  passed : Passed (second_world ops w)
+  pub passed : Passed (second_world ops w)
   passed = (second_keeps, second_drops, second_ages)
 
   -- what follows aging, of the world that it leaves
